@@ -1,0 +1,3 @@
+pub mod Kinds
+pub mod Layouts
+pub mod Tables
