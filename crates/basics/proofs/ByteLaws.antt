@@ -3,7 +3,7 @@ use mathlib.Core.Path.{_≡_, refl, sym, ap, subst, _∙_}
 use mathlib.Core.Bool.{Bool, true, false, cond, not, _&&_}
 use mathlib.Core.List.{List, [], _∷_}
 use Prim.Native.Nat.{ℕ, zero, suc, _+_, _≤_, _<_}
-use native.Mathlib.Nat.{add-zero}
+use native.Mathlib.Nat.{add-zero, zero-add}
 use native.Mathlib.Omega.{arith}
 use lib.ListN.{length, getD, drop}
 use Rattle.std.proofs.shelf.Lists.{drop-more, drop-all}
@@ -33,12 +33,12 @@ absurd-none e = absurd (let z : _≡_ {A = ℕ} 0 1 = cc in omega arith)
 pub same-some : {A : Type 0} {x y : A} → _≡_ {A = Option A} (Some x) (Some y) → x ≡ y
 same-some e = cc
 
--- every byte may stand where it does
-abbrev pub Clean : (ℕ → ℕ → Bool) → ℕ → List ℕ → Type 0
+-- every byte may stand where it does, counted from k
+abbrev Clean : (ℕ → ℕ → Bool) → ℕ → List ℕ → Type 0
 Clean ok k s = (j : ℕ) → j < length s → ok (k + j) (getD s j 0) ≡ true
 
--- the byte at `far` is the first that may not
-pub record First (ok : ℕ → ℕ → Bool) (k : ℕ) (s : List ℕ) (far : ℕ) : Type 0 where
+-- the byte at `far` is the first that may not, counted from k
+record FirstFrom (ok : ℕ → ℕ → Bool) (k : ℕ) (s : List ℕ) (far : ℕ) : Type 0 where
   pub inside : far < length s
   pub before : (j : ℕ) → j < far → ok (k + j) (getD s j 0) ≡ true
   pub here : ok (k + far) (getD s far 0) ≡ false
@@ -53,7 +53,7 @@ onto : (ok : ℕ → ℕ → Bool) (k b : ℕ) (bs : List ℕ) (n : ℕ) → ok 
 onto ok k b bs n a h zero l = ap (λ n. ok n b) (add-zero k) ∙ a
 onto ok k b bs n a h (suc j) l = shift ok k j (getD bs j 0) true (h j (omega arith))
 
-pub none-clean : (ok : ℕ → ℕ → Bool) (k : ℕ) (s : List ℕ) → firstForbidden ok k s ≡ None → Clean ok k s
+none-clean : (ok : ℕ → ℕ → Bool) (k : ℕ) (s : List ℕ) → firstForbidden ok k s ≡ None → Clean ok k s
 none-clean ok k [] e = λ j h. absurd (omega arith)
 none-clean ok k (b ∷ bs) e =
     elim (ok k b) as (λ t. ok k b ≡ t → cond t (firstForbidden ok (k + 1) bs) (Some k) ≡ None → Clean ok k (b ∷ bs)) [
@@ -62,19 +62,19 @@ none-clean ok k (b ∷ bs) e =
     ]
     refl e
 
-pub clean-none : (ok : ℕ → ℕ → Bool) (k : ℕ) (s : List ℕ) → Clean ok k s → firstForbidden ok k s ≡ None
+clean-none : (ok : ℕ → ℕ → Bool) (k : ℕ) (s : List ℕ) → Clean ok k s → firstForbidden ok k s ≡ None
 clean-none ok k [] h = refl
 clean-none ok k (b ∷ bs) h =
     ap (λ t. cond t (firstForbidden ok (k + 1) bs) (Some k)) (ap (λ n. ok n b) (sym (add-zero k)) ∙ h 0 (omega arith))
     ∙ clean-none ok (k + 1) bs (λ j l. shift-back ok k j (getD bs j 0) true (h (suc j) (omega arith)))
 
 -- the index that is answered, counted from k
-pub record Found (ok : ℕ → ℕ → Bool) (k : ℕ) (s : List ℕ) (m : ℕ) : Type 0 where
+record Found (ok : ℕ → ℕ → Bool) (k : ℕ) (s : List ℕ) (m : ℕ) : Type 0 where
   pub far : ℕ
   pub is : m ≡ k + far
-  pub first : First ok k s far
+  pub first : FirstFrom ok k s far
 
-pub some-first : (ok : ℕ → ℕ → Bool) (k : ℕ) (s : List ℕ) (m : ℕ) → firstForbidden ok k s ≡ Some m → Found ok k s m
+some-first : (ok : ℕ → ℕ → Bool) (k : ℕ) (s : List ℕ) (m : ℕ) → firstForbidden ok k s ≡ Some m → Found ok k s m
 some-first ok k [] m e = absurd-none e
 some-first ok k (b ∷ bs) m e =
     elim (ok k b) as (λ t. ok k b ≡ t → cond t (firstForbidden ok (k + 1) bs) (Some k) ≡ Some m → Found ok k (b ∷ bs) m) [
@@ -98,7 +98,7 @@ some-first ok k (b ∷ bs) m e =
     ]
     refl e
 
-pub first-some : (ok : ℕ → ℕ → Bool) (k : ℕ) (s : List ℕ) (far : ℕ) → First ok k s far → firstForbidden ok k s ≡ Some (k + far)
+first-some : (ok : ℕ → ℕ → Bool) (k : ℕ) (s : List ℕ) (far : ℕ) → FirstFrom ok k s far → firstForbidden ok k s ≡ Some (k + far)
 first-some ok k [] far f = let l = f .inside in absurd (omega arith)
 first-some ok k (b ∷ bs) zero f =
     ap (λ t. cond t (firstForbidden ok (k + 1) bs) (Some k)) (ap (λ n. ok n b) (sym (add-zero k)) ∙ f .here) ∙ ap Some (sym (add-zero k))
@@ -157,3 +157,46 @@ forbidden-test ok k [] = refl
 forbidden-test ok k (b ∷ bs) =
     elim (ok b) as (λ t. isSome (cond t (firstForbidden (anywhere ok) (k + 1) bs) (Some k)) ≡ not (t && all ok bs))
     [ true ↦ forbidden-test ok (k + 1) bs | false ↦ refl ]
+
+-- no byte is forbidden: each may stand where it does
+pub clean-of-none : (ok : ℕ → ℕ → Bool) (s : List ℕ) → firstForbidden ok 0 s ≡ None → (j : ℕ) → j < length s → ok j (getD s j 0) ≡ true
+clean-of-none ok s e j h = ap (λ n. ok n (getD s j 0)) (sym (zero-add j)) ∙ none-clean ok 0 s e j h
+
+pub none-of-clean : (ok : ℕ → ℕ → Bool) (s : List ℕ) → ((j : ℕ) → j < length s → ok j (getD s j 0) ≡ true) → firstForbidden ok 0 s ≡ None
+none-of-clean ok s h = clean-none ok 0 s (λ j l. ap (λ n. ok n (getD s j 0)) (zero-add j) ∙ h j l)
+
+-- the byte at m is the first that may not stand where it does
+pub record First (ok : ℕ → ℕ → Bool) (s : List ℕ) (m : ℕ) : Type 0 where
+  pub inside : m < length s
+  pub before : (j : ℕ) → j < m → ok j (getD s j 0) ≡ true
+  pub here : ok m (getD s m 0) ≡ false
+
+pub first-of-some : (ok : ℕ → ℕ → Bool) (s : List ℕ) (m : ℕ) → firstForbidden ok 0 s ≡ Some m → First ok s m
+first-of-some ok s m e =
+    let r = some-first ok 0 s m e in
+    let same : r .far ≡ m = let i = r .is in omega arith in
+    let f = r .first in
+    record {
+      inside = subst (λ n. n < length s) same (f .inside);
+      before = λ j h. ap (λ n. ok n (getD s j 0)) (sym (zero-add j)) ∙ f .before j (omega arith);
+      here = subst (λ n. ok n (getD s n 0) ≡ false) same (ap (λ n. ok n (getD s (r .far) 0)) (sym (zero-add (r .far))) ∙ f .here);
+    }
+
+pub some-of-first : (ok : ℕ → ℕ → Bool) (s : List ℕ) (m : ℕ) → First ok s m → firstForbidden ok 0 s ≡ Some m
+some-of-first ok s m f =
+    first-some ok 0 s m
+    (record {
+      inside = f .inside;
+      before = λ j h. ap (λ n. ok n (getD s j 0)) (zero-add j) ∙ f .before j h;
+      here = ap (λ n. ok n (getD s m 0)) (zero-add m) ∙ f .here;
+    })
+    ∙ ap Some (zero-add m)
+
+-- tests that agree within the bytes find the same
+pub same-forbidden : (ok ko : ℕ → ℕ → Bool) (k : ℕ) (s : List ℕ) → ((j b : ℕ) → j < length s → ok (k + j) b ≡ ko (k + j) b) → firstForbidden ok k s ≡ firstForbidden ko k s
+same-forbidden ok ko k [] h = refl
+same-forbidden ok ko k (b ∷ bs) h =
+    let here : ok k b ≡ ko k b = ap (λ n. ok n b) (sym (add-zero k)) ∙ h 0 b (omega arith) ∙ ap (λ n. ko n b) (add-zero k) in
+    ap (λ t. cond t (firstForbidden ok (k + 1) bs) (Some k)) here
+    ∙ ap (λ o. cond (ko k b) o (Some k))
+    (same-forbidden ok ko (k + 1) bs (λ j c l. let m : k + 1 + j ≡ k + suc j = omega arith in ap (λ n. ok n c) m ∙ h (suc j) c (omega arith) ∙ ap (λ n. ko n c) (sym m)))

@@ -1,0 +1,4 @@
+pub mod Rules
+pub mod Judging
+pub mod Belongs
+pub mod Refuses

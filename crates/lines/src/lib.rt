@@ -1,0 +1,3 @@
+// Judging one line against any layout set.
+mod parts;
+mod rules;
