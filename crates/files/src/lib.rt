@@ -1,0 +1,2 @@
+// Files: bytes cut into lines.
+pub mod cut;
