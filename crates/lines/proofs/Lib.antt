@@ -1,0 +1,3 @@
+pub mod Steps
+pub mod Sound
+pub mod Walks
