@@ -49,7 +49,7 @@ pub filler : (b w i p : ℕ) (s : List ℕ) → length s ≤ w → cleaned (λ k
 filler b w i p s h =
     ap (λ o. unforbidden o i p (p + length s))
     (same-forbidden (λ k x. eqb x b) (these (replicate w b)) 0 s
-        (λ j x l. ap (eqb x) (sym (ap (λ n. getD (replicate w b) n 0) (zero-add j) ∙ getD-replicate w j b 0 (omega arith)))))
+    (λ j x l. ap (eqb x) (sym (ap (λ n. getD (replicate w b) n 0) (zero-add j) ∙ getD-replicate w j b 0 (omega arith)))))
     ∙ sym (then-ok (cleaned (these (replicate w b)) i p s))
 
 -- the number of clean digits

@@ -47,12 +47,7 @@ fn block_end(
 }
 
 // The place behind a field of the line, or its first fault.
-pub(crate) fn field_end(
-    f: Field,
-    field: usize,
-    place: usize,
-    line: &[u8],
-) -> Result<usize, Refusal>
+pub(crate) fn field_end(f: Field, field: usize, place: usize, line: &[u8]) -> Result<usize, Refusal>
     requires { ⌜ place ≤ length (now line) ⌝ }
     ensures { λ r. ⌜ r ≡ fieldEnd (shape f) field place (now (line .entry)) ⌝ }
 {

@@ -1,8 +1,6 @@
 // The judgement of one line.
 ghost use mathlib.Core.Path.{_≡_};
-ghost use mathlib.Core.Logic.{_⊎_};
-ghost use Prim.Native.Nat.{ℕ, _+_, _≤_};
-ghost use lib.ListN.{length};
+ghost use Prim.Native.Nat.{ℕ};
 ghost use Rattle.std.specs.declared.option.Option.the-variants.{Some};
 ghost use Rattle.std.specs.declared.result.Result.the-variants.{Ok, Err};
 ghost use Rattle.basics.specs.declared.refusal.Refusal.{Refusal};
@@ -70,4 +68,14 @@ fn judge_fields<S: LayoutSet>(set: &S, line: &[u8]) -> Result<usize, Refusal>
         Some(j) => walk(set, j, line),
         None => Err(fault(Reason::UnknownRecord, 1, 1)),
     }
+}
+
+// The number of the layout that the line belongs to, or the line's first fault. Only the set's two
+// questions are asked.
+pub fn judge<S: LayoutSet>(set: &S, line: &[u8]) -> Result<usize, Refusal>
+    ensures answer_is_the_first_fault { λ r. ⌜ r ≡ judged (meaning (now (set .entry))) (now (line .entry)) ⌝ }
+    ensures accepted_exactly_when_it_belongs { λ r. ⌜ ((j : ℕ) → (r ≡ Ok j → BelongsAs (meaning (now (set .entry))) j (now (line .entry))) × (BelongsAs (meaning (now (set .entry))) j (now (line .entry)) → r ≡ Ok j)) ⌝ }
+    ensures refused_exactly_as_the_rules_say { λ r. ⌜ ((e : Refusal) → (r ≡ Err e → Refuses (meaning (now (set .entry))) (now (line .entry)) e) × (Refuses (meaning (now (set .entry))) (now (line .entry)) e → r ≡ Err e)) ⌝ }
+{
+    judge_fields(set, line)
 }

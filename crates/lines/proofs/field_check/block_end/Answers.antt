@@ -15,7 +15,7 @@ returns-in-Break-n c high =
     let h = c .in-Continue-count .ensures tt in
     rw (x .1, x .2)
     (block-refused high (numberTest (c .args .counts)) (textTest (c .args .texts)) i p (c .args .line .now) (c .in-Continue-count .count .now) (h .0) (h .1) (h .2) _
-        (c .in-Break-n .ensures tt ∙ ap (λ k. numbered (numberTest (c .args .counts)) k i p (c .in-Continue-count .count .now)) (c .pre .1)))
+    (c .in-Break-n .ensures tt ∙ ap (λ k. numbered (numberTest (c .args .counts)) k i p (c .in-Continue-count .count .now)) (c .pre .1)))
 
 pub returns : need.returns
 returns c high =

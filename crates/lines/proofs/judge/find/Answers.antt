@@ -26,5 +26,5 @@ returns-else-has-digits g c =
     let e = ap (λ o. sameNumber (Some (c .args .digits)) (recordAt o)) (sym (c .field .ensures)) ∙ sym (c .if-has-digits .ensures tt) in
     sym
     (found-turn (g .S·LayoutSet .meaning (c .args .set .now)) (c .args .digits) (c .loop-j .j) (omega arith) (omega arith) false e
-        ∙ found-past (g .S·LayoutSet .meaning (c .args .set .now)) (c .args .digits) (c .loop-j .j + 1) (omega arith) (omega arith))
+    ∙ found-past (g .S·LayoutSet .meaning (c .args .set .now)) (c .args .digits) (c .loop-j .j + 1) (omega arith) (omega arith))
     ∙ c .loop-j .inv
