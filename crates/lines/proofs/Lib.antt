@@ -1,0 +1,9 @@
+pub mod Steps
+pub mod Sound
+pub mod Walks
+pub mod Complete
+pub mod Reasons
+pub mod Lines
+pub mod Names
+pub mod Judged
+pub mod Refused

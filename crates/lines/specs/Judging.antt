@@ -33,6 +33,11 @@ cleaned ok i p s = unforbidden (firstForbidden ok 0 s) i p (p + length s)
 abbrev pub partIn : Part → ℕ → ℕ → List ℕ → Result ℕ Refusal
 partIn q i p s = andThen (cleaned (allows q) i p s) (λ e. cond (passes q s) (Ok e) (Err (refusal (refusedBy q) 2 0 i (p + 1))))
 
+-- the number of a part of digits that is to pass a test, else refusal n at its first byte
+abbrev pub numbered : (ℕ → Bool) → ℕ → ℕ → ℕ → List ℕ → Result ℕ Refusal
+numbered ok n i p s =
+    andThen (cleaned (anywhere (allowed class.Digit)) i p s) (λ e. cond (ok (numberOf s)) (Ok (numberOf s)) (Err (refusal n 2 0 i (p + 1))))
+
 -- w bytes of the line behind place p, handed on, or 11 where the line ends first
 abbrev pub cut : ℕ → ℕ → ℕ → List ℕ → (List ℕ → Result ℕ Refusal) → Result ℕ Refusal
 cut w i p line k = cond (ltb (length line - p) w) (Err (refusal 11 2 0 i (length line + 1))) (k (take w (drop p line)))
@@ -61,6 +66,11 @@ fieldEnd (block high counts ok) i p line = andThen (partEnd (count counts) i p l
 abbrev pub walked : List ℕ → ℕ → List Field → ℕ → ℕ → Result ℕ Refusal
 walked line j [] i p = cond (ltb p (length line)) (Err (refusal 18 2 0 i (p + 1))) (Ok j)
 walked line j (f ∷ fs) i p = andThen (fieldEnd (shape f) i p line) (λ q. walked line j fs (i + 1) q)
+
+-- the digits of a layout that begins with this field
+abbrev pub recordAt : Option Field → Option ℕ
+recordAt None = None
+recordAt (Some f) = recordOf f
 
 -- the first layout, counted from j, that has these digits
 abbrev pub found : List (List Field) → ℕ → ℕ → Option ℕ

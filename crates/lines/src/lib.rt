@@ -1,3 +1,5 @@
 // Judging one line against any layout set.
+mod field_check;
+pub mod judge;
 mod parts;
 mod rules;
