@@ -3,3 +3,5 @@ pub mod Putting
 pub mod Laying
 pub mod Faults
 pub mod Showing
+pub mod Bounds
+pub mod Fitting

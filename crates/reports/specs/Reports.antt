@@ -1,7 +1,7 @@
 -- The report of a survey, byte by byte.
 use mathlib.Core.Bool.{cond}
 use mathlib.Core.List.{List, [], _∷_, _++_}
-use Prim.Native.Nat.{ℕ}
+use Prim.Native.Nat.{ℕ, _<_, _^_}
 use lib.Chars.{codes}
 use lib.Dec.{ltb}
 use lib.ListN.{length, take, drop}
@@ -54,3 +54,20 @@ answerOf text room = cond (ltb (length room) (length text)) (Err (refusal 45 2 0
 -- a text that there is no room for is not put
 abbrev pub roomAfter : List ℕ → List ℕ → List ℕ
 roomAfter text room = cond (ltb (length room) (length text)) room (putInto text room)
+
+-- no number of a fault's line is cut by its column
+pub record Uncut (r : FaultRow) : Type 0 where
+  pub line : r .line < 10 ^ 5
+  pub field : r .field < 10 ^ 2
+  pub byte : r .byte < 10 ^ 5
+  pub number : r .number < 10 ^ 2
+
+abbrev pub AllUncut : List FaultRow → Type 0
+AllUncut [] = Unit {0}
+AllUncut (r ∷ rs) = Uncut r × AllUncut rs
+
+-- no number of the report is cut by its column
+pub record NumbersFit (ls : List (List Field)) (bytes : List ℕ) : Type 0 where
+  pub lines : linesIn bytes < 10 ^ 5
+  pub bad : length (faultsOf ls bytes) < 10 ^ 5
+  pub faults : AllUncut (faultsOf ls bytes)

@@ -2,7 +2,7 @@
 ghost use mathlib.Core.Path.{_≡_};
 ghost use Prim.Native.Nat.{ℕ, _≤_};
 ghost use lib.ListN.{length};
-ghost use Rattle.reports.specs.Reports.{reportOf, answerOf, roomAfter};
+ghost use Rattle.reports.specs.Reports.{reportOf, answerOf, roomAfter, NumbersFit};
 use crate::fault_row::FaultRow;
 use crate::survey::survey;
 use crate::writing::put_report;
@@ -29,6 +29,7 @@ pub fn report<S: LayoutSet>(set: &S, bytes: &[u8], out: &mut [u8]) -> Result<usi
     ensures answer { λ r. ⌜ r ≡ answerOf (reportOf (meaning (now (set .entry))) (now (bytes .entry))) (now (out .entry)) ⌝ }
     ensures written { λ _. ⌜ now (out .exit) ≡ roomAfter (reportOf (meaning (now (set .entry))) (now (bytes .entry))) (now (out .entry)) ⌝ }
     ensures short { λ _. ⌜ length (reportOf (meaning (now (set .entry))) (now (bytes .entry))) ≤ 4022 ⌝ }
+    ensures numbers_fit { λ _. ⌜ (length (now (bytes .entry)) ≤ 65536 → NumbersFit (meaning (now (set .entry))) (now (bytes .entry))) ⌝ }
 {
     if bytes.len() > MOST_BYTES {
         return put_text(out, b"TOO LONG\n");
