@@ -1,14 +1,14 @@
 -- Laws of cutting bytes into lines.
 use mathlib.Core.Path.{_≡_, refl, sym, ap, subst, _∙_}
-use mathlib.Core.Logic.{_⊎_, inl, inr, ⊎-elim}
-use mathlib.Core.Bool.{Bool, true, false, cond, _&&_}
+use mathlib.Core.Logic.{⊎-elim}
+use mathlib.Core.Bool.{true, false, cond}
 use mathlib.Core.List.{List, [], _∷_, _++_, append-assoc}
-use Prim.Native.Nat.{ℕ, zero, suc, _+_, _-_, _*_, _≤_, _<_}
+use Prim.Native.Nat.{ℕ, zero, suc, _+_, _-_, _≤_, _<_}
 use native.Mathlib.Omega.{arith}
 use native.Mathlib.Nat.{zero-add, add-zero}
 use lib.Dec.{eqb}
-use lib.ListN.{length, take, drop, getD, length-drop, length-append, take-append-drop}
-use Rattle.std.proofs.shelf.Lists.{drop-more, drop-drop, drop-all, take-at, drop-at, length-take-le, take-rest}
+use lib.ListN.{length, take, drop, getD, length-drop, length-append}
+use Rattle.std.proofs.shelf.Lists.{drop-more, drop-drop, take-at, drop-at, length-take-le, take-rest}
 use Rattle.std.proofs.shelf.Tests.{and-parts, and-from, and-left, and-right, eqb-true, eq-eqb, ne-eqb, cases-eq, cond-true, cond-false}
 use Rattle.std.specs.Options.{mapped}
 use Rattle.std.specs.declared.option.Option.{Option}

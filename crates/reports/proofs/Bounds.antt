@@ -1,26 +1,25 @@
 -- The bounds of a line's first fault: its field, its byte and its number.
-use mathlib.Core.Path.{_≡_, refl, sym, ap, subst, _∙_}
-use mathlib.Core.Logic.{_⊎_, inl, inr, ⊎-elim}
+use mathlib.Core.Path.{_≡_, refl, sym, subst, _∙_}
+use mathlib.Core.Logic.{inl, inr}
 use mathlib.Core.Bool.{Bool, true, false, cond}
 use mathlib.Core.List.{List, [], _∷_}
-use Prim.Native.Nat.{ℕ, _+_, _-_, _*_, _≤_, _<_}
+use Prim.Native.Nat.{ℕ, _+_, _*_, _≤_}
 use native.Mathlib.Omega.{arith}
 use lib.Dec.{ltb}
-use lib.ListN.{length, take, drop, length-take, length-drop}
+use lib.ListN.{length}
 use Rattle.std.proofs.shelf.Tests.{ltb-true}
 use Rattle.std.specs.declared.option.Option.{Option}
 use Rattle.std.specs.declared.option.Option.the-variants.{Some, None}
-use Rattle.std.specs.declared.result.Result.{Result}
 use Rattle.std.specs.declared.result.Result.the-variants.{Ok, Err}
 use Rattle.basics.specs.declared.refusal.Refusal.{Refusal}
 use Rattle.basics.specs.Refusals.{number, reason, refusal}
 use Rattle.layouts.specs.declared.field.Field.{Field}
 use Rattle.layouts.specs.declared.field.Field.the-variants.{Record, Range, Number, Zeros, Text, FilledText, Blanks, Day, DayOrZero, Amount, Currency, OneOf, Lines, AllOrNoLines}
-use Rattle.layouts.specs.Kinds.{Part, Shape, one, block, shape, count, width, refusedBy}
+use Rattle.layouts.specs.Kinds.{Part, Shape, one, block, shape, count, refusedBy}
 use Rattle.layouts.specs.Layouts.{layoutAt, isLawful}
 use Rattle.layouts.proofs.Laws.{lawful-fields}
 use Rattle.lines.specs.Judging.{andThen, fieldEnd, walked, named, chosen, judged}
-use Rattle.lines.specs.Refuses.{Short, Foreign, Wrong, WrongLine, PartRefused, LinesRefused, FieldRefused}
+use Rattle.lines.specs.Refuses.{PartRefused, LinesRefused, FieldRefused}
 use Rattle.lines.proofs.Steps.{same-err}
 use Rattle.lines.proofs.Sound.{ended}
 use Rattle.lines.proofs.Reasons.{absurd-ok, field-refused}

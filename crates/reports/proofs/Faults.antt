@@ -1,10 +1,10 @@
 -- Laws of the faults of bytes, line by line.
-use mathlib.Core.Path.{_≡_, refl, sym, ap, subst, _∙_}
+use mathlib.Core.Path.{_≡_, ap, _∙_}
 use mathlib.Core.List.{List, [], _∷_, _++_, append-assoc}
-use Prim.Native.Nat.{ℕ, zero, suc, _+_, _-_, _≤_, _<_}
+use Prim.Native.Nat.{ℕ, suc, _+_, _-_, _≤_, _<_}
 use native.Mathlib.Omega.{arith}
 use native.Mathlib.Nat.{add-zero}
-use lib.ListN.{length, take, drop, getD, length-append}
+use lib.ListN.{length, take, drop}
 use Rattle.std.proofs.shelf.Lists.{drop-drop, drop-more, drop-all}
 use Rattle.std.specs.declared.option.Option.the-variants.{Some, None}
 use Rattle.std.specs.declared.result.Result.{Result}
@@ -14,8 +14,7 @@ use Rattle.layouts.specs.declared.field.Field.{Field}
 use Rattle.lines.specs.Judging.{judged}
 use Rattle.files.specs.Lines.{lineEnd, linesOf, restOf}
 use Rattle.files.proofs.Cuts.{Ends, next-rest, ends-from, within-from, none-from, no-lines, all-rest}
-use Rattle.reports.specs.declared.fault_row.FaultRow.{FaultRow}
-use Rattle.reports.specs.Surveys.{faultOf, faultsIn, restFault, faultsFrom, faultsOf, linesIn}
+use Rattle.reports.specs.Surveys.{faultOf, faultsIn, restFault, faultsFrom, linesIn}
 
 -- a line has at most one row
 pub one-fault : (n : ℕ) (r : Result ℕ Refusal) → length (faultOf n r) ≤ 1

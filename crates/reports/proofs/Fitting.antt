@@ -1,23 +1,21 @@
 -- No number of a report is cut by its column.
-use mathlib.Core.Path.{_≡_, refl, sym, ap, subst, _∙_}
+use mathlib.Core.Path.{_≡_, refl, sym, ap, subst}
 use mathlib.Core.Bool.{true}
 use mathlib.Core.List.{List, [], _∷_, _++_}
-use Prim.Native.Nat.{ℕ, _+_, _-_, _≤_, _<_, _^_}
+use Prim.Native.Nat.{ℕ, _+_, _≤_, _<_}
 use native.Mathlib.Omega.{arith}
 use lib.ListN.{length, take, drop, length-drop, length-append, length-take}
-use Rattle.std.specs.declared.option.Option.the-variants.{Some, None}
 use Rattle.std.specs.declared.result.Result.{Result}
 use Rattle.std.specs.declared.result.Result.the-variants.{Ok, Err}
 use Rattle.basics.specs.declared.refusal.Refusal.{Refusal}
 use Rattle.layouts.specs.declared.field.Field.{Field}
 use Rattle.layouts.specs.Layouts.{isLawful}
 use Rattle.lines.specs.Judging.{judged}
-use Rattle.files.specs.Lines.{lineEnd}
-use Rattle.files.proofs.Cuts.{Ends, by-lines}
+use Rattle.files.proofs.Cuts.{by-lines}
 use Rattle.reports.specs.declared.fault_row.FaultRow.{FaultRow}
-use Rattle.reports.specs.Surveys.{faultOf, restFault, faultsFrom, faultsOf, linesIn}
-use Rattle.reports.specs.Reports.{Uncut, AllUncut, NumbersFit}
-use Rattle.reports.proofs.Bounds.{Within, judged-within}
+use Rattle.reports.specs.Surveys.{faultOf, restFault, faultsFrom, linesIn}
+use Rattle.reports.specs.Reports.{AllUncut, NumbersFit}
+use Rattle.reports.proofs.Bounds.{judged-within}
 use Rattle.reports.proofs.Faults.{one-fault, faults-first, faults-rest, lines-first, lines-rest}
 
 uncut-append : (xs ys : List FaultRow) → AllUncut xs → AllUncut ys → AllUncut (xs ++ ys)

@@ -1,12 +1,12 @@
 -- Laws of the report.
-use mathlib.Core.Path.{_≡_, refl, sym, ap, _∙_}
-use mathlib.Core.List.{List, [], _∷_, _++_}
-use Prim.Native.Nat.{ℕ, min, _+_, _-_, _*_, _≤_, _<_}
+use mathlib.Core.Path.{_≡_, sym, ap, _∙_}
+use mathlib.Core.List.{List}
+use Prim.Native.Nat.{ℕ, min, _-_, _≤_}
 use native.Mathlib.Omega.{arith}
 use lib.Dec.{ltb}
 use lib.ListN.{length, take, drop, length-take}
 use Rattle.std.proofs.shelf.Lists.{take-at}
-use Rattle.std.proofs.shelf.Tests.{lt-ltb, le-ltb, cond-true, cond-false, cond-both}
+use Rattle.std.proofs.shelf.Tests.{le-ltb, cond-false, cond-both}
 use Rattle.layouts.specs.declared.field.Field.{Field}
 use Rattle.reports.specs.declared.fault_row.FaultRow.{FaultRow}
 use Rattle.reports.specs.Surveys.{faultsOf, linesIn, laidOver}

@@ -1,6 +1,6 @@
 // The report of a survey.
 ghost use mathlib.Core.Path.{_≡_};
-ghost use Prim.Native.Nat.{ℕ, _≤_};
+ghost use Prim.Native.Nat.{_≤_};
 ghost use lib.ListN.{length};
 ghost use Rattle.reports.specs.Reports.{reportOf, answerOf, roomAfter, NumbersFit};
 use crate::fault_row::FaultRow;

@@ -1,6 +1,6 @@
 // A survey goes over all lines and goes on after a bad one.
 ghost use mathlib.Core.Path.{_≡_};
-ghost use Prim.Native.Nat.{ℕ, _+_, _<_, _^_};
+ghost use Prim.Native.Nat.{_+_, _<_, _^_};
 ghost use lib.ListN.{length, set};
 ghost use Rattle.lines.specs.Judging.{judged};
 ghost use Rattle.reports.specs.Surveys.{faultOf, faultsOf, linesIn, laid, laidOver};

@@ -1,7 +1,7 @@
 // The lines of a report, and what is written into a lent room.
 ghost use mathlib.Core.Path.{_≡_};
 ghost use mathlib.Core.List.{_++_};
-ghost use Prim.Native.Nat.{ℕ, _+_, _*_, _≤_};
+ghost use Prim.Native.Nat.{_+_, _*_, _≤_};
 ghost use lib.ListN.{length, take, drop};
 ghost use Rattle.reports.specs.Reports.{headLine, faultLine, shown, putInto, answerOf, roomAfter};
 use crate::fault_row::FaultRow;

@@ -1,7 +1,7 @@
-use mathlib.Core.Path.{_≡_, sym, ap, _∙_}
+use mathlib.Core.Path.{ap}
 use native.Mathlib.Omega.{arith}
 use lib.ListN.{length, drop}
-use Rattle.files.specs.Lines.{linesOf, written}
+use Rattle.files.specs.Lines.{written}
 use Rattle.files.proofs.Cuts.{cut-from, written-from, within-from, none-from, no-lines, cutting}
 use Rattle.files.proofs.cut.count_lines.Needs as need
 

@@ -1,9 +1,9 @@
-use mathlib.Core.Path.{_≡_, sym, ap, _∙_}
-use Prim.Native.Nat.{_+_, _-_, _≤_}
+use mathlib.Core.Path.{sym, ap, _∙_}
+use Prim.Native.Nat.{_+_, _-_}
 use native.Mathlib.Omega.{arith}
 use lib.ListN.{length, drop, take, length-append}
 use Rattle.lines.specs.Judging.{judged}
-use Rattle.reports.specs.Surveys.{faultOf, faultsFrom, faultsOf, linesIn, laid, restFault}
+use Rattle.reports.specs.Surveys.{faultOf, faultsFrom, faultsOf, laid}
 use Rattle.reports.proofs.Laying.{laid-append, laid-over}
 use Rattle.reports.proofs.Faults.{inside, one-fault, line-more, faults-more, faults-last, lines-last, rest-stands, rest-empty}
 use Rattle.reports.proofs.survey.survey.Needs as need

@@ -1,5 +1,4 @@
-use mathlib.Core.Path.{_≡_, sym, ap, _∙_}
-use native.Mathlib.Omega.{arith}
+use mathlib.Core.Path.{_∙_}
 use lib.ListN.{length}
 use Prim.Native.Nat.{_+_, _*_}
 use Rattle.reports.specs.Reports.{shown}
