@@ -20,6 +20,10 @@ pub add-at : need.add-at
 add-at g c =
     let w = inside (c .args .bytes .now) (c .loop-k .at) (c .in-Some .k) (c .in-Some .ensures tt) (c .loop-k .inv .2) in omega arith
 
+pub loop-k-less : need.loop-k-less
+loop-k-less g c =
+    let w = inside (c .args .bytes .now) (c .loop-k .at) (c .in-Some .k) (c .in-Some .ensures tt) (c .loop-k .inv .2) in omega arith
+
 pub loop-k-again : need.loop-k-again
 loop-k-again g c =
     let f = c .args .bytes .now in
