@@ -44,7 +44,8 @@ impl<'a, T: Copy> RowStack<'a, T> {
     pub fn used(&self) -> usize
         ensures { λ r. ⌜ r ≡ now (self .entry) .used ⌝ }
     {
-        self.used
+        let RowStack { used, .. } = self;
+        *used
     }
 }
 

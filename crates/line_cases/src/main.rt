@@ -1,0 +1,18 @@
+// Runs lines, files and reports whose answers the rules settle, and prints what came. The expected
+// output beside this program was written from the rules.
+mod built_lines;
+mod cases;
+mod files;
+mod tiny;
+
+use std::io;
+
+fn main(rt: LibcRuntime) -> io::Result<()> {
+    cases::short_lines(rt)?;
+    cases::blocks(rt)?;
+    cases::text_bytes(rt)?;
+    cases::prefixes(rt)?;
+    built_lines::smallest_and_largest(rt)?;
+    files::reports(rt)?;
+    files::surveys(rt)
+}
