@@ -11,7 +11,7 @@ use layouts::field::Field;
 use std::io;
 
 // How many bytes the field has at the front of the rest of a line; a block goes by its count.
-pub fn extent(f: Field, rest: &[u8]) -> usize {
+pub(crate) fn extent(f: Field, rest: &[u8]) -> usize {
     match f {
         Field::Record(_) | Field::Day | Field::DayOrZero => 8,
         Field::Range(_, _) => 2,
@@ -91,7 +91,7 @@ fn tell_block(rt: LibcRuntime, place: usize, part: &[u8]) -> io::Result<()>
 }
 
 // What stands in the field.
-pub fn tell_value(rt: LibcRuntime, f: Field, place: usize, part: &[u8]) -> io::Result<()> {
+pub(crate) fn tell_value(rt: LibcRuntime, f: Field, place: usize, part: &[u8]) -> io::Result<()> {
     match f {
         Field::Record(_) | Field::Range(_, _) | Field::Number(_) | Field::Currency => {
             let shown = Shown(part);

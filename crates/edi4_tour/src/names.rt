@@ -25,7 +25,7 @@ const PAYMENT: [&str; 22] = [
 ];
 
 // What field i of layout j is for; only the payment's fields have names here.
-pub fn name_of(j: usize, i: usize) -> &'static str {
+pub(crate) fn name_of(j: usize, i: usize) -> &'static str {
     if j == 1 && i >= 1 && i <= 22 {
         PAYMENT[i - 1]
     } else {

@@ -102,7 +102,7 @@ fn tell_layout(rt: LibcRuntime, j: usize, name: &[u8]) -> io::Result<()> {
     tell_three(rt, " largest", line_of(rt.alloc(), j, name, true)?)
 }
 
-pub fn smallest_and_largest(rt: LibcRuntime) -> io::Result<()> {
+pub(crate) fn smallest_and_largest(rt: LibcRuntime) -> io::Result<()> {
     tell_layout(rt, 1, b"UBT04500")?;
     tell_layout(rt, 2, b"UBT04601")?;
     tell_layout(rt, 3, b"UBT04602")?;

@@ -6,7 +6,7 @@ use lines::judge::judge;
 use std::io;
 
 // Prints the verdict on a line.
-pub fn tell(rt: LibcRuntime, what: &str, verdict: Result<usize, Refusal>) -> io::Result<()> {
+pub(crate) fn tell(rt: LibcRuntime, what: &str, verdict: Result<usize, Refusal>) -> io::Result<()> {
     match verdict {
         Ok(j) => println!(rt, "{what}: accepted, layout {j}"),
         Err(e) => {
@@ -27,7 +27,7 @@ fn tell_line(rt: LibcRuntime, what: &str, line: &[u8]) -> io::Result<()> {
     tell(rt, what, judge(&Tiny, line))
 }
 
-pub fn short_lines(rt: LibcRuntime) -> io::Result<()> {
+pub(crate) fn short_lines(rt: LibcRuntime) -> io::Result<()> {
     tell_line(rt, "DKK 175.25", b"UBT99900000000000017525DKK")?;
     tell_line(rt, "amount zero", b"UBT99900000000000000000DKK")?;
     tell_line(rt, "small letter", b"UBT99900000000000017525DkK")?;
@@ -43,7 +43,7 @@ pub fn short_lines(rt: LibcRuntime) -> io::Result<()> {
     tell_line(rt, "a CR in the line", b"UBT9990000000000001752\rDKK")
 }
 
-pub fn blocks(rt: LibcRuntime) -> io::Result<()> {
+pub(crate) fn blocks(rt: LibcRuntime) -> io::Result<()> {
     tell_line(rt, "count 03", b"UBT99901000000000017525DKK03")?;
     tell_line(rt, "count 0x", b"UBT99901000000000017525DKK0x")?;
     tell_line(rt, "count cut", b"UBT99901000000000017525DKK0")?;
@@ -77,7 +77,7 @@ fn line_with(b: u8) -> [u8; 63] {
 }
 
 // Every byte as the first of a block's line.
-pub fn text_bytes(rt: LibcRuntime) -> io::Result<()> {
+pub(crate) fn text_bytes(rt: LibcRuntime) -> io::Result<()> {
     let mut allowed = 0u32;
     let mut wrong = 0u32;
     for b in 0..=255u8 {
@@ -100,7 +100,7 @@ pub fn text_bytes(rt: LibcRuntime) -> io::Result<()> {
 }
 
 // Every shorter beginning of a line is refused with 11, behind its last byte.
-pub fn prefixes(rt: LibcRuntime) -> io::Result<()> {
+pub(crate) fn prefixes(rt: LibcRuntime) -> io::Result<()> {
     let line = b"UBT99901000000000017525DKK01Thirty-five bytes of text, no more.";
     let mut refused = 0u32;
     for n in 0..line.len() {

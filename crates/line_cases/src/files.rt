@@ -22,7 +22,7 @@ fn tell_report(rt: LibcRuntime, what: &str, bytes: &[u8], out: &mut [u8]) -> io:
     }
 }
 
-pub fn reports(rt: LibcRuntime) -> io::Result<()> {
+pub(crate) fn reports(rt: LibcRuntime) -> io::Result<()> {
     let mut room = [46u8; 4022];
     tell_report(rt, "report of UBT CR LF", b"UBT\r\n", &mut room)?;
     tell_report(rt, "report of nothing", b"", &mut room)?;
@@ -64,7 +64,7 @@ fn many_bad_lines(rt: LibcRuntime, room: &mut [u8]) -> io::Result<()> {
 }
 
 // Three bad lines of four, and two rows for them in memory for three.
-pub fn surveys(rt: LibcRuntime) -> io::Result<()> {
+pub(crate) fn surveys(rt: LibcRuntime) -> io::Result<()> {
     let bytes = b"UBT99900000000000000000DKK\r\nUBT99900000000000017525DKK\r\n\r\nUBT";
     let mut rows = [FaultRow {
         line: 7,

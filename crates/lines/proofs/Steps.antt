@@ -8,7 +8,7 @@ use native.Mathlib.Omega.{arith}
 use lib.Dec.{ltb, eqb}
 use lib.ListN.{length, getD, take, drop, replicate}
 use Rattle.std.proofs.shelf.Lists.{drop-drop, getD-replicate, length-replicate}
-use Rattle.std.proofs.shelf.Tests.{le-ltb, lt-ltb}
+use Rattle.std.proofs.shelf.Tests.{le-ltb}
 use Rattle.std.specs.Options.{valueOr}
 use Rattle.std.specs.declared.option.Option.{Option}
 use Rattle.std.specs.declared.option.Option.the-variants.{Some, None}
@@ -20,8 +20,8 @@ use Rattle.basics.specs.Refusals.{refusal}
 use Rattle.basics.specs.Bytes.{allowed, anywhere, these, firstForbidden}
 use Rattle.basics.specs.Decimals.{numberOf, valueOf}
 use Rattle.basics.proofs.ByteLaws.{same-forbidden, none-all}
-use Rattle.basics.proofs.DigitLaws.{value-some, number-lt}
-use Rattle.layouts.specs.Kinds.{Part, constant, figures, count, block}
+use Rattle.basics.proofs.DigitLaws.{value-some}
+use Rattle.layouts.specs.Kinds.{Part, constant, figures, letters, anyText, count, block}
 use Rattle.lines.specs.Judging.{andThen, unforbidden, cleaned, partIn, partEnd, numbered, cut, eachLine, linesEnd, fieldEnd}
 
 pub absurd-err : {A B : Type 0} {x : A} {e : Refusal} → _≡_ {A = Result A Refusal} (Err e) (Ok x) → B
@@ -70,13 +70,10 @@ part-figures w ok n i p s =
       | Some k ↦ refl
     ]
 
--- there is room: the part is handed on; or there is none
+-- there is room: the part is handed on
 pub cut-ok : (w i p : ℕ) (line : List ℕ) (k : List ℕ → Result ℕ Refusal) (s : List ℕ) (r : Result ℕ Refusal) → s ≡ take w (drop p line) → w ≤ length line - p → r ≡ k s → r ≡ cut w i p line k
 cut-ok w i p line k s r e h g =
     g ∙ ap k e ∙ sym (ap (λ t. cond t (Err (refusal 11 2 0 i (length line + 1))) (k (take w (drop p line)))) (le-ltb (length line - p) w h))
-
-pub cut-short : (w i p : ℕ) (line : List ℕ) (k : List ℕ → Result ℕ Refusal) → length line - p < w → Err (refusal 11 2 0 i (length line + 1)) ≡ cut w i p line k
-cut-short w i p line k h = sym (ap (λ t. cond t (Err (refusal 11 2 0 i (length line + 1))) (k (take w (drop p line)))) (lt-ltb (length line - p) w h))
 
 -- one turn of the loop over the lines of a block
 module _ (ok : List ℕ → Bool) (n i p : ℕ) (s : List ℕ) (k : ℕ) where
@@ -105,18 +102,19 @@ module _ (ok : List ℕ → Bool) (n i p : ℕ) (s : List ℕ) (k : ℕ) where
   lines-done h = let a : n - k ≡ 0 = omega arith in ap (λ m. eachLine ok m i (p + 35 * k) (drop (35 * k) s)) a
 
 -- a field of so many times one byte
-pub filler-short : (b w i p : ℕ) (line : List ℕ) → length line - p < w → Err (refusal 11 2 0 i (length line + 1)) ≡ partEnd (constant (replicate w b)) i p line
-filler-short b w i p line h =
-    let n = length-replicate {A = ℕ} w b in
-    cut-short (length (replicate w b)) i p line (partIn (constant (replicate w b)) i p) (subst (λ m. length line - p < m) (sym n) h)
+filler-in : (b w i p : ℕ) (s : List ℕ) → length s ≤ w → partIn (letters w (λ x. eqb x b) anyText 14) i p s ≡ partIn (constant (replicate w b)) i p s
+filler-in b w i p s h = then-ok (cleaned (λ k x. eqb x b) i p s) ∙ filler b w i p s h
 
-pub filler-ok : (b w i p : ℕ) (line s : List ℕ) (r : Result ℕ Refusal) → s ≡ take w (drop p line) → w ≤ length line - p → length s ≡ w → r ≡ cleaned (λ k x. eqb x b) i p s → r ≡ partEnd (constant (replicate w b)) i p line
-filler-ok b w i p line s r e h l g =
-    let n = length-replicate {A = ℕ} w b in
-    cut-ok (length (replicate w b)) i p line (partIn (constant (replicate w b)) i p) s r
-    (e ∙ ap (λ m. take m (drop p line)) (sym n))
-    (subst (λ m. m ≤ length line - p) (sym n) h)
-    (g ∙ filler b w i p s (omega arith))
+short-take : (w : ℕ) (xs : List ℕ) → length (take w xs) ≤ w
+short-take zero xs = omega arith
+short-take (suc w) [] = omega arith
+short-take (suc w) (x ∷ xs) = let h = short-take w xs in omega arith
+
+pub filler-end : (b w i p : ℕ) (line : List ℕ) → partEnd (letters w (λ x. eqb x b) anyText 14) i p line ≡ partEnd (constant (replicate w b)) i p line
+filler-end b w i p line =
+    let s = take w (drop p line) in
+    ap (λ r. cond (ltb (length line - p) w) (Err (refusal 11 2 0 i (length line + 1))) r) (filler-in b w i p s (short-take w (drop p line)))
+    ∙ ap (λ m. cut m i p line (partIn (constant (replicate w b)) i p)) (sym (length-replicate {A = ℕ} w b))
 
 pub numbered-ok : (ok : ℕ → Bool) (n i p : ℕ) (s : List ℕ) (m : ℕ) → numbered ok n i p s ≡ Ok m → m ≡ numberOf s
 numbered-ok ok n i p s m h =
@@ -149,15 +147,3 @@ module _ (high : ℕ) (counts : ℕ → Bool) (ok : List ℕ → Bool) (i p : �
       ∙ ap (λ k. linesEnd ok k i (p + 2) line) m
       ∙ ap (λ k. linesEnd ok (numberOf (take 2 (drop p line))) i (p + k) line) (sym two)
       ∙ sym (ap (λ r. andThen r rest) (counted ∙ ap (λ r. andThen r (λ m. Ok (p + length s))) (sym h)))
-
--- a count of two digits is below 100
-pub count-lt : (ok : ℕ → Bool) (n i p : ℕ) (s : List ℕ) (m : ℕ) → length s ≡ 2 → numbered ok n i p s ≡ Ok m → m < 100
-count-lt ok n i p s m two h =
-    elim (firstForbidden (anywhere (allowed class.Digit)) 0 s) as (λ o. firstForbidden (anywhere (allowed class.Digit)) 0 s ≡ o → andThen (unforbidden o i p (p + length s)) (λ e. cond (ok (numberOf s)) (Ok (numberOf s)) (Err (refusal n 2 0 i (p + 1)))) ≡ Ok m → m < 100) [
-      | None ↦ λ o g.
-          let small = subst (λ w. numberOf s < 10 ^ w) two (number-lt s (none-all (allowed class.Digit) 0 s o)) in
-          let is = numbered-ok ok n i p s m h in
-          omega arith
-      | Some k ↦ λ o g. absurd-err g
-    ]
-    refl h
