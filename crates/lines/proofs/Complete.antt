@@ -54,7 +54,7 @@ each-passes ok (suc n) i p s h =
     ∙ ap Ok more
 
 -- every byte of n lines stands in one of them
-text-at : (ok : List ℕ → Bool) (n : ℕ) (s : List ℕ) → ((k : ℕ) → k < n → Fit (line ok) (take 35 (drop (35 * k) s))) → (j : ℕ) → j < 35 * n → allowed class.Text (getD s j 0) ≡ true
+pub text-at : (ok : List ℕ → Bool) (n : ℕ) (s : List ℕ) → ((k : ℕ) → k < n → Fit (line ok) (take 35 (drop (35 * k) s))) → (j : ℕ) → j < 35 * n → allowed class.Text (getD s j 0) ≡ true
 text-at ok n s each j h =
     let k = j / 35 in
     let r = j % 35 in

@@ -7,3 +7,4 @@ pub mod Lines
 pub mod Names
 pub mod Judged
 pub mod Refused
+pub mod TextOnly
