@@ -74,7 +74,7 @@ block-text counts ok s b =
     let w = b .wide in
     let d = length-drop 2 s in
     let rest : TextOnly (drop 2 s) =
-        at-all (allowed class.Text) (drop 2 s) (λ j l. text-at ok n (drop 2 s) (λ k m. subst (Fit (line ok)) (ap (take 35) (sym (drop-drop (35 * k) 2 s))) (b .each k m)) j (omega arith)) in
+    at-all (allowed class.Text) (drop 2 s) (λ j l. text-at ok n (drop 2 s) (λ k m. subst (Fit (line ok)) (ap (take 35) (sym (drop-drop (35 * k) 2 s))) (b .each k m)) j (omega arith)) in
     subst TextOnly (take-append-drop 2 s) (text-append (take 2 s) (drop 2 s) (number-text 2 counts 15 (take 2 s) (b .counted)) rest)
 
 one-of-text : (a b c d : ℕ) → figured (OneOf a b c d) ≡ true → (x : ℕ) → allowed (class.OneOf a b c d) x ≡ true → allowed class.Text x ≡ true
@@ -84,8 +84,8 @@ one-of-text a b c d e x h =
     let r = and-parts (allowed class.Text c) (allowed class.Text d) (q .1) in
     ⊎-elim (λ i. ap (allowed class.Text) (eqb-true x a i) ∙ p .0)
     (λ i. ⊎-elim (λ j. ap (allowed class.Text) (eqb-true x b j) ∙ q .0)
-        (λ j. ⊎-elim (λ k. ap (allowed class.Text) (eqb-true x c k) ∙ r .0) (λ k. ap (allowed class.Text) (eqb-true x d k) ∙ r .1) (or-cases (eqb x c) (eqb x d) j))
-        (or-cases (eqb x b) (eqb x c || eqb x d) i))
+    (λ j. ⊎-elim (λ k. ap (allowed class.Text) (eqb-true x c k) ∙ r .0) (λ k. ap (allowed class.Text) (eqb-true x d k) ∙ r .1) (or-cases (eqb x c) (eqb x d) j))
+    (or-cases (eqb x b) (eqb x c || eqb x d) i))
     (or-cases (eqb x a) (eqb x b || (eqb x c || eqb x d)) h)
 
 field-text : (f : Field) (s : List ℕ) → figured f ≡ true → Writes f s → TextOnly s
