@@ -1,0 +1,1 @@
+// The fields of a line, one after another.
