@@ -22,10 +22,12 @@ abbrev pub orZero : Option ℕ → ℕ
 orZero None = 0
 orZero (Some n) = n
 
+abbrev pub readingOf : List Field → List ℕ → Reading
+readingOf l line = record { digits = orZero (digitsOf l); rows = length (rowsOf l line) }
+
 -- a line that follows the layout: 24 if there is no room for its rows
 abbrev pub readAs : List Field → List ℕ → ℕ → Result Reading Refusal
-readAs l line room =
-    cond (ltb room (length (rowsOf l line))) (Err (refusal 24 2 0 0 0)) (Ok (record { digits = orZero (digitsOf l); rows = length (rowsOf l line) }))
+readAs l line room = cond (ltb room (length (rowsOf l line))) (Err (refusal 24 2 0 0 0)) (Ok (readingOf l line))
 
 -- a line that is judged: its fault comes first
 abbrev pub readBy : List (List Field) → List ℕ → ℕ → Result ℕ Refusal → Result Reading Refusal

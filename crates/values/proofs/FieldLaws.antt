@@ -118,8 +118,8 @@ reads-lines ok (suc n) s bytes rs rest e =
     let f = reads-part (line ok) (c .a) bytes rs (c .mid) (c .first) in
     let g = reads-lines ok n (c .b) bytes (c .mid) rest (c .next) in
     let h =
-        at-cut (λ x y. (Fit (line ok) x × Many ok n y) × ShowsThen bytes rs (partValues (line ok) x ++ lineValues n y) rest) (c .a) (c .b) s 35 (c .whole) (f .0 .wide)
-        ((f .0, g .0), shows-join bytes rs (partValues (line ok) (c .a)) (lineValues n (c .b)) (c .mid) rest (f .1) (g .1)) in
+    at-cut (λ x y. (Fit (line ok) x × Many ok n y) × ShowsThen bytes rs (partValues (line ok) x ++ lineValues n y) rest) (c .a) (c .b) s 35 (c .whole) (f .0 .wide)
+    ((f .0, g .0), shows-join bytes rs (partValues (line ok) (c .a)) (lineValues n (c .b)) (c .mid) rest (f .1) (g .1)) in
     (many-more ok n s (h .0 .0) (h .0 .1), h .1)
 
 -- one field
@@ -141,8 +141,8 @@ reads-field (block high counts ok) s bytes (r ∷ rs) rest e =
     let g = reads-lines ok (r .number) (c .b) bytes (c .mid) rest (c .next) in
     let m = subst (λ n. Many ok n (c .b) × ShowsThen bytes (c .mid) (lineValues n (c .b)) rest) (f .1 .0) g in
     let h =
-        at-cut (λ x y. (Fit (count counts) x × Many ok (numberOf x) y) × ShowsThen bytes (r ∷ rs) (partValues (count counts) x ++ lineValues (numberOf x) y) rest) (c .a) (c .b) s 2 (c .whole) (f .0 .wide)
-        ((f .0, m .0), shows-join bytes (r ∷ rs) (partValues (count counts) (c .a)) (lineValues (numberOf (c .a)) (c .b)) (c .mid) rest (f .1) (m .1)) in
+    at-cut (λ x y. (Fit (count counts) x × Many ok (numberOf x) y) × ShowsThen bytes (r ∷ rs) (partValues (count counts) x ++ lineValues (numberOf x) y) rest) (c .a) (c .b) s 2 (c .whole) (f .0 .wide)
+    ((f .0, m .0), shows-join bytes (r ∷ rs) (partValues (count counts) (c .a)) (lineValues (numberOf (c .a)) (c .b)) (c .mid) rest (f .1) (m .1)) in
     (lines-block counts ok s (h .0 .0) (h .0 .1), h .1)
 
 -- how far a field goes

@@ -118,10 +118,10 @@ shows-part (letters w c ok n) line k s rest e le h =
     let m : length s ≤ length line - k = omega (arith, ap length e, length-take w (drop k line), length-drop k line) in
     let z : k + 1 - 1 ≡ k = omega arith in
     let t : take (length (trim s)) (drop (k + 1 - 1) line) ≡ trim s =
-        ap (λ i. take (length (trim s)) (drop i line)) z
-        ∙ sym (take-take (length (trim s)) w (drop k line) (omega (arith, trim-le s, h .wide)))
-        ∙ ap (take (length (trim s))) (sym e)
-        ∙ trim-take s in
+    ap (λ i. take (length (trim s)) (drop i line)) z
+    ∙ sym (take-take (length (trim s)) w (drop k line) (omega (arith, trim-le s, h .wide)))
+    ∙ ap (take (length (trim s))) (sym e)
+    ∙ trim-take s in
     let low : 1 ≤ k + 1 = omega arith in
     let high : k + 1 + length (trim s) ≤ length line + 1 = omega (arith, trim-le s) in
     ((and-from _ _ (le-leb _ _ low) (le-leb _ _ high), t), refl)
