@@ -27,7 +27,7 @@ fn has_digits(first: Option<Field>, digits: u64) -> bool
 }
 
 // The number of the layout that has these digits.
-fn find<S: LayoutSet>(set: &S, digits: u64) -> Option<usize>
+pub fn find<S: LayoutSet>(set: &S, digits: u64) -> Option<usize>
     ensures { λ r. ⌜ r ≡ found (meaning (now (set .entry))) 1 digits ⌝ }
 {
     for j in 1..=set.layouts() {

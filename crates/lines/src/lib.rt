@@ -2,4 +2,4 @@
 mod field_check;
 pub mod judge;
 mod parts;
-mod rules;
+pub mod rules;

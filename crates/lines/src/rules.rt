@@ -10,7 +10,7 @@ use basics::refusal::Reason;
 
 // The numbers that a part may show.
 #[derive(Clone, Copy)]
-pub(crate) enum NumberRule {
+pub enum NumberRule {
     Any,
     Between(u8, u8),
     NoneOr(u8),
@@ -20,7 +20,7 @@ pub(crate) enum NumberRule {
 }
 
 impl NumberRule {
-    pub(crate) fn passes(self, n: u64) -> bool
+    pub fn passes(self, n: u64) -> bool
         ensures { λ r. ⌜ r ≡ numberTest self n ⌝ }
     {
         match self {
@@ -34,7 +34,7 @@ impl NumberRule {
     }
 
     // Why a number that does not pass is refused.
-    pub(crate) fn reason(self) -> Reason
+    pub fn reason(self) -> Reason
         ensures { λ r. ⌜ r ≡ reason (numberRefusal self) ⌝ }
     {
         match self {
@@ -48,13 +48,13 @@ impl NumberRule {
 
 // The texts that a part may hold.
 #[derive(Clone, Copy)]
-pub(crate) enum TextRule {
+pub enum TextRule {
     Any,
     Filled,
 }
 
 impl TextRule {
-    pub(crate) fn passes(self, part: &[u8]) -> bool
+    pub fn passes(self, part: &[u8]) -> bool
         ensures { λ r. ⌜ r ≡ textTest self (now (part .entry)) ⌝ }
     {
         match self {

@@ -1,0 +1,3 @@
+pub mod RowSteps
+pub mod Walks
+pub mod Outcomes

@@ -1,0 +1,4 @@
+// Reading a line: its values, as rows.
+mod fields;
+mod parts;
+pub mod read;

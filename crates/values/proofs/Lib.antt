@@ -1,0 +1,4 @@
+pub mod Padding
+pub mod PartLaws
+pub mod FieldLaws
+pub mod RecordLaws

@@ -1,0 +1,5 @@
+pub mod Forms
+pub mod Values
+pub mod Rows
+pub mod Writing
+pub mod Records
