@@ -1,0 +1,4 @@
+pub mod Strips
+pub mod Layers
+pub mod Loads
+pub mod Readers
