@@ -4,3 +4,4 @@ mod lawful;
 pub mod load;
 pub mod loaded_set;
 mod reader;
+pub mod write;

@@ -18,7 +18,6 @@ use std::alloc::Global;
 // A lawful set of layouts. No other layouts can be in it.
 #[derive(Drop)]
 pub struct LoadedSet {
-    pub(crate) heap: Global,
     pub(crate) layouts: Vec<Vec<Field>>,
     ghost lawful: { isLawful (layoutsOf layouts) ≡ true },
 }
@@ -44,7 +43,7 @@ impl LoadedSet {
         let fields = fields_of(&BuiltIn, 1, heap)?;
         let mut layouts = Vec::new(heap);
         layouts.push(fields)?;
-        Ok(LoadedSet { heap, layouts })
+        Ok(LoadedSet { layouts })
     }
 }
 
