@@ -1,4 +1,3 @@
-pub mod LawfulLaws
 pub mod FieldLaws
 pub mod ReaderLaws
 pub mod Steps

@@ -15,12 +15,12 @@ use crate::kind::body_width;
 use crate::kind::field_at;
 use crate::kind::kind_of;
 use crate::kind::refused;
-use crate::lawful::is_lawful;
 use crate::load::LoadError;
 use crate::load::LoadErrorFromAlloc;
 use crate::load::LoadErrorFromRefusal;
 use crate::load::LoadErrorFromRefused;
 use basics::refusal::Reason;
+use lawful::layout::is_lawful;
 use layouts::field::Field;
 use std::alloc::Global;
 

@@ -1,7 +1,7 @@
 use mathlib.Core.Path.{sym, _∙_}
 use mathlib.Core.Bool.{true, false}
-use Rattle.strips.proofs.LawfulLaws.{later-more, later-end}
-use Rattle.strips.proofs.lawful.are_later.Needs as need
+use Rattle.lawful.proofs.LawfulLaws.{later-more, later-end}
+use Rattle.lawful.proofs.layout.are_later.Needs as need
 
 pub returns-then-not-is-later : need.returns-then-not-is-later
 returns-then-not-is-later c =

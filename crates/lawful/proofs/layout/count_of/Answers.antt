@@ -1,8 +1,8 @@
 use mathlib.Core.Path.{sym, _∙_}
 use native.Mathlib.Omega.{arith}
-use Rattle.strips.proofs.LawfulLaws.{times-yes, times-no, times-end}
-use Rattle.strips.proofs.lawful.count_of.Needs as need
-use Rattle.strips.proofs.lawful.count_of.Needs.{then-letter-of-kind, else-letter-of-kind}
+use Rattle.lawful.proofs.LawfulLaws.{times-yes, times-no, times-end}
+use Rattle.lawful.proofs.layout.count_of.Needs as need
+use Rattle.lawful.proofs.layout.count_of.Needs.{then-letter-of-kind, else-letter-of-kind}
 
 pub loop-f-again : need.loop-f-again
 loop-f-again c =

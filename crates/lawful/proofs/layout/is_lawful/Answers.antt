@@ -2,8 +2,8 @@ use mathlib.Core.Path.{sym, _∙_}
 use native.Mathlib.Omega.{arith}
 use lib.ListN.{length}
 use Rattle.std.proofs.shelf.Tests.{eqb-false}
-use Rattle.strips.proofs.LawfulLaws.{not-later, not-one-amount, not-one-currency, decided}
-use Rattle.strips.proofs.lawful.is_lawful.Needs as need
+use Rattle.lawful.proofs.LawfulLaws.{not-later, not-one-amount, not-one-currency, decided}
+use Rattle.lawful.proofs.layout.is_lawful.Needs as need
 
 pub returns-then-not-are-later : need.returns-then-not-are-later
 returns-then-not-are-later c = not-later (c .args .fields .now) (c .if-not-are-later .ensures tt)

@@ -1,6 +1,6 @@
 use borrow.Author.Needs.{needs}
 use Rattle.std.proofs.shelf.Lists.{length-replicate}
-use Rattle.strips.proofs.lawful.widest.Needs as need
+use Rattle.lawful.proofs.layout.widest.Needs as need
 
 pub returns-in-Zeros : need.returns-in-Zeros
 returns-in-Zeros c = search (needs, length-replicate)

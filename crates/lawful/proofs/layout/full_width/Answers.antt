@@ -1,6 +1,6 @@
 use native.Mathlib.Omega.{arith}
-use Rattle.strips.proofs.LawfulLaws.{width-more, width-end}
-use Rattle.strips.proofs.lawful.full_width.Needs as need
+use Rattle.lawful.proofs.LawfulLaws.{width-more, width-end}
+use Rattle.lawful.proofs.layout.full_width.Needs as need
 
 pub loop-f-again : need.loop-f-again
 loop-f-again c =
