@@ -1,0 +1,2 @@
+// Which layouts are lawful.
+pub mod layout;
