@@ -1,3 +1,4 @@
 pub mod RowSteps
 pub mod Walks
 pub mod Outcomes
+pub mod Moneys

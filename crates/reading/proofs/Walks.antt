@@ -1,6 +1,6 @@
 -- One turn of the walk over the fields of a line.
 use mathlib.Core.Path.{_≡_, refl, sym, ap, subst, _∙_}
-use mathlib.Core.Bool.{Bool, true, false, not, _&&_}
+use mathlib.Core.Bool.{Bool, true, false, cond, not, _&&_}
 use mathlib.Core.List.{List, [], _∷_, _++_}
 use Prim.Native.Nat.{ℕ, zero, suc, _+_, _-_, _*_, _≤_, _<_}
 use native.Mathlib.Omega.{arith}
@@ -22,6 +22,7 @@ use Rattle.lines.proofs.Names.{lawful-at}
 use Rattle.values.specs.declared.row.ValueRow.{ValueRow}
 use Rattle.values.specs.Values.{extent, cuts}
 use Rattle.values.specs.Rows.{fieldRows, rowsIn, laid}
+use Rattle.values.specs.Money.{partOf}
 use Rattle.values.proofs.FieldLaws.{extent-is}
 use Rattle.reading.specs.Reading.{Narrow}
 use Rattle.reading.proofs.RowSteps.{cut-whole, cut-within, laid-append}
@@ -125,3 +126,26 @@ laid-more old cur new ys zs all u v a n e h =
 
 pub length-split : (all ys zs : List ValueRow) → all ≡ ys ++ zs → length all ≡ length ys + length zs
 length-split all ys zs e = ap length e ∙ length-append ys zs
+
+-- one turn of the search for a part: it is this one, or among what is left
+module _ (l : List Field) (line : List ℕ) (i p : ℕ) (f : Field) (x : Shape) (s : List ℕ) (k : ℕ) (le : p ≤ length line) (e : place l i ≡ Some f) (is : x ≡ shape f) (h : Follows (drop (i - 1) l) (drop p line)) (cut : s ≡ take (extent x (drop p line)) (drop p line)) where
+  part-turn : partOf k (drop (i - 1) l) (cuts (drop (i - 1) l) (drop p line)) ≡ cond (eqb (letter f) k) s (partOf k (drop (i + 1 - 1) l) (cuts (drop (i + 1 - 1) l) (drop (p + length s) line)))
+  part-turn =
+      let t : List ℕ = drop p line in
+      let n : length s ≡ extent x t = ap length cut ∙ cut-whole x t (part-lawful l line i p f x e is h) in
+      let back : i ≡ i + 1 - 1 = omega arith in
+      let d : drop (extent x t) t ≡ drop (p + length s) line = drop-drop (extent x t) p line ∙ ap (λ k. drop (p + k) line) (sym n) in
+      ap (λ fs. partOf k fs (cuts fs t)) (drop-at-place l i f e)
+      ∙ ap (λ y. cond (eqb (letter f) k) (take (extent y t) t) (partOf k (drop i l) (cuts (drop i l) (drop (extent y t) t)))) (sym is)
+      ∙ ap (λ u. cond (eqb (letter f) k) u (partOf k (drop i l) (cuts (drop i l) (drop (extent x t) t)))) (sym cut)
+      ∙ ap (λ u. cond (eqb (letter f) k) s (partOf k (drop i l) (cuts (drop i l) u))) d
+      ∙ ap (λ m. cond (eqb (letter f) k) s (partOf k (drop m l) (cuts (drop m l) (drop (p + length s) line)))) back
+
+  pub part-here : eqb (letter f) k ≡ true → partOf k (drop (i - 1) l) (cuts (drop (i - 1) l) (drop p line)) ≡ s
+  part-here t = part-turn ∙ ap (λ b. cond b s (partOf k (drop (i + 1 - 1) l) (cuts (drop (i + 1 - 1) l) (drop (p + length s) line)))) t
+
+  pub part-later : eqb (letter f) k ≡ false → partOf k (drop (i - 1) l) (cuts (drop (i - 1) l) (drop p line)) ≡ partOf k (drop (i + 1 - 1) l) (cuts (drop (i + 1 - 1) l) (drop (p + length s) line))
+  part-later t = part-turn ∙ ap (λ b. cond b s (partOf k (drop (i + 1 - 1) l) (cuts (drop (i + 1 - 1) l) (drop (p + length s) line)))) t
+
+pub part-none : (l : List Field) (line : List ℕ) (i p k : ℕ) → 1 ≤ i → place l i ≡ None → partOf k (drop (i - 1) l) (cuts (drop (i - 1) l) (drop p line)) ≡ []
+part-none l line i p k h e = ap (λ fs. partOf k fs (cuts fs (drop p line))) (drop-at-none l i h e)

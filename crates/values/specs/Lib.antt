@@ -3,3 +3,4 @@ pub mod Values
 pub mod Rows
 pub mod Writing
 pub mod Records
+pub mod Money
