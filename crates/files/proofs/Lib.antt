@@ -1,3 +1,4 @@
 pub mod Cuts
 pub mod Counting
 pub mod FileLaws
+pub mod Sums

@@ -1,2 +1,4 @@
 pub mod Lines
 pub mod Files
+pub mod Totals
+pub mod Differences

@@ -1,3 +1,5 @@
-// Files: cutting bytes into lines, and judging a file whole.
+// Files: cutting bytes into lines, judging a file whole, totals and differences.
 pub mod cut;
+pub mod difference;
 pub mod judge_file;
+pub mod total;
