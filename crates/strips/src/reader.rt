@@ -24,6 +24,9 @@ use lawful::layout::is_lawful;
 use layouts::field::Field;
 use std::alloc::Global;
 
+// How many layouts a set has at most.
+const MOST_LAYOUTS: usize = 8;
+
 // The digits of a U field.
 fn record_of(f: Field) -> Option<u32>
     ensures { λ r. ⌜ r ≡ recordOf f ⌝ }
@@ -117,7 +120,7 @@ impl Reader {
     ) -> Result<Reader, LoadError>
         ensures { λ r. ⌜ Answers r readingOf (opened byte (layoutsOf done) field) ⌝ }
     {
-        if done.len() >= 8 {
+        if done.len() >= MOST_LAYOUTS {
             return Err(LoadError::Refused(refused(Reason::TooManyLayouts, byte)));
         }
         if !is_new(record_of(field), &done) {

@@ -12,8 +12,8 @@ use Rattle.strips.specs.Loads.{Reading}
 use Rattle.strips.proofs.ReaderLaws.{length-layouts, opened-late, opened-early}
 use Rattle.strips.proofs.reader.Reader.open.Needs as need
 
-pub returns-then-len-ge8 : need.returns-then-len-ge8
-returns-then-len-ge8 c =
+pub returns-then-len-ge-MOST-LAYOUTS : need.returns-then-len-ge-MOST-LAYOUTS
+returns-then-len-ge-MOST-LAYOUTS c =
     let n = length-layouts (c .args .done) in
     let l = c .len .ensures in
     let h : 8 ≤ length (layoutsOf (c .args .done)) = omega arith in
