@@ -1,9 +1,7 @@
 // Reading strips into layouts, one field after another.
 ghost use mathlib.Core.Path.{_≡_};
-ghost use mathlib.Core.List.{[], _∷_};
 ghost use Prim.Native.Nat.{_+_, _<_};
 ghost use lib.ListN.{length, getD, drop};
-ghost use Rattle.std.specs.Of.Vec.{vec-items};
 ghost use Rattle.std.specs.declared.result.Result.the-variants.{Ok};
 ghost use Rattle.layouts.specs.Layouts.{recordOf, digitsOf, sameNumber, noneNamed};
 ghost use Rattle.strips.specs.Layers.{listsOf, layoutsOf};

@@ -6,9 +6,8 @@ use native.Mathlib.Omega.{arith}
 use lib.ListN.{length}
 use Rattle.std.specs.Of.Vec.{vec-items}
 use Rattle.std.specs.declared.result.Result.the-variants.{Ok, Err}
-use Rattle.layouts.specs.Layouts.{recordOf, noneNamed}
+use Rattle.layouts.specs.Layouts.{noneNamed}
 use Rattle.strips.specs.Layers.{listsOf, layoutsOf}
-use Rattle.strips.specs.Loads.{Reading}
 use Rattle.strips.proofs.ReaderLaws.{length-layouts, opened-late, opened-early}
 use Rattle.strips.proofs.reader.Reader.open.Needs as need
 
