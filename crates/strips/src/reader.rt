@@ -106,9 +106,7 @@ impl Reader {
         done.push(fields)?;
         Ok(done)
     }
-}
 
-impl Reader {
     // The next layout is open: its U field stands at this byte.
     fn open(
         done: Vec<Vec<Field>>,
