@@ -1,21 +1,19 @@
 -- The strips of a lawful set are accepted, and give that set.
-use mathlib.Core.Path.{_≡_, refl, sym, ap, subst, _∙_}
-use mathlib.Core.Bool.{Bool, true, false, cond, not, _&&_}
+use mathlib.Core.Path.{_≡_, refl, sym, ap, _∙_}
+use mathlib.Core.Bool.{true, false, cond, not, _&&_}
 use mathlib.Core.List.{List, [], _∷_, _++_, append-assoc, append-nil}
-use Prim.Native.Nat.{ℕ, zero, suc, _+_, _≤_, _<_}
+use Prim.Native.Nat.{ℕ, _+_, _≤_, _<_}
 use native.Mathlib.Omega.{arith}
 use lib.Dec.{leb, eqb}
-use lib.ListN.{length, getD, take, drop, length-append}
+use lib.ListN.{length, length-append}
 use Rattle.std.specs.Joined.{joined}
 use Rattle.std.specs.Options.{okOr}
 use Rattle.std.proofs.shelf.Lists.{take-at, drop-at, length-push}
-use Rattle.std.proofs.shelf.Tests.{and-parts, not-true, eqb-true, eqb-false, eq-eqb, ne-eqb, leb-true, false≢true}
-use Rattle.std.specs.declared.option.Option.{Option}
-use Rattle.std.specs.declared.option.Option.the-variants.{Some, None}
-use Rattle.std.specs.declared.result.Result.the-variants.{Ok, Err}
+use Rattle.std.proofs.shelf.Tests.{and-parts, not-true, eqb-true, eqb-false, eq-eqb, leb-true, false≢true}
+use Rattle.std.specs.declared.result.Result.the-variants.{Ok}
 use Rattle.basics.proofs.ByteLaws.{same-some}
 use Rattle.layouts.specs.declared.field.Field.{Field}
-use Rattle.layouts.specs.Layouts.{letter, figured, later, digitsOf, sameNumber, noneNamed, lawfulLayout, lawfulLayouts, isLawful}
+use Rattle.layouts.specs.Layouts.{letter, figured, later, digitsOf, sameNumber, noneNamed, lawfulLayouts, isLawful}
 use Rattle.layouts.proofs.Laws.{layout-law, layouts-law, lawful-layouts}
 use Rattle.strips.specs.declared.kind.Kind.the-variants.{Record}
 use Rattle.strips.specs.Strips.{kindOf, bodyWidth, fieldIn, body, stripOf, stripsOf}

@@ -1,5 +1,5 @@
 -- A field at the front of strips.
-use mathlib.Core.Path.{_≡_, refl, sym, ap, _∙_}
+use mathlib.Core.Path.{_≡_, sym, ap, _∙_}
 use mathlib.Core.Bool.{cond}
 use mathlib.Core.List.{List}
 use Prim.Native.Nat.{ℕ, _≤_, _<_}
@@ -7,7 +7,7 @@ use lib.ListN.{length, take}
 use Rattle.std.specs.Options.{okOr}
 use Rattle.std.proofs.shelf.Tests.{lt-ltb, le-ltb}
 use Rattle.std.specs.declared.option.Option.{Option}
-use Rattle.std.specs.declared.result.Result.the-variants.{Ok, Err}
+use Rattle.std.specs.declared.result.Result.the-variants.{Err}
 use Rattle.layouts.specs.declared.field.Field.{Field}
 use Rattle.strips.specs.declared.kind.Kind.{Kind}
 use Rattle.strips.specs.Strips.{bodyWidth, fieldIn}

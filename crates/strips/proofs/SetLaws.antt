@@ -1,6 +1,5 @@
 -- A set's layouts and fields by their places.
-use mathlib.Core.Path.{_≡_, refl, sym, ap, _∙_}
-use mathlib.Core.Bool.{true}
+use mathlib.Core.Path.{_≡_, sym, ap, _∙_}
 use mathlib.Core.List.{List, [], _∷_, _++_, append-assoc, append-nil}
 use mathlib.Core.Logic.{_⊎_, inl, inr}
 use Prim.Native.Nat.{ℕ, suc, _+_, _-_, _≤_, _<_}
@@ -9,11 +8,10 @@ use lib.ListN.{length, getD, drop}
 use Rattle.std.specs.Of.Vec.{vec-items}
 use Rattle.std.specs.declared.vec.Vec.{Vec}
 use Rattle.std.specs.declared.alloc.Global.{Global}
-use Rattle.std.specs.declared.option.Option.{Option}
 use Rattle.std.specs.declared.option.Option.the-variants.{Some, None}
 use Rattle.std.proofs.shelf.Lists.{getD-map, length-map}
 use Rattle.layouts.specs.declared.field.Field.{Field}
-use Rattle.layouts.specs.Layouts.{place, orEmpty, layoutAt, fieldAt}
+use Rattle.layouts.specs.Layouts.{place, orEmpty, fieldAt}
 use Rattle.layouts.proofs.Places.{place-zero, place-past, place-at, drop-at-place, drop-at-none}
 use Rattle.strips.specs.Layers.{listsOf}
 

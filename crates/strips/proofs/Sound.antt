@@ -1,9 +1,9 @@
 -- What is accepted is a lawful set, and the strips are its writing.
 use mathlib.Core.Path.{_≡_, refl, sym, ap, subst, _∙_}
-use mathlib.Core.Bool.{Bool, true, false, cond, not, _&&_}
+use mathlib.Core.Bool.{true, false, cond, not, _&&_}
 use mathlib.Core.List.{List, [], _∷_, _++_, append-assoc, append-nil}
 use mathlib.Core.Logic.{_⊎_, inl, inr}
-use Prim.Native.Nat.{ℕ, zero, suc, _+_, _≤_, _<_}
+use Prim.Native.Nat.{ℕ, zero, suc, _+_, _<_}
 use native.Mathlib.Omega.{arith}
 use lib.Dec.{leb, ltb, eqb}
 use lib.ListN.{length, take, drop}
@@ -19,7 +19,7 @@ use Rattle.layouts.proofs.Laws.{layouts-law}
 use Rattle.strips.specs.Strips.{kindOf, bodyWidth, stripOf, stripsOf}
 use Rattle.strips.specs.Sets.{Writes}
 use Rattle.strips.specs.Loads.{Reading, at, start, finished, closed, opened, added, stepped, widthOf, readFrom, read}
-use Rattle.strips.proofs.FieldStrips.{letterOf, kind-letter, field-strip}
+use Rattle.strips.proofs.FieldStrips.{kind-letter, field-strip}
 use Rattle.strips.proofs.Steps.{err-not-ok, same-ok, followed, Took, Began, Grew, took}
 
 pub same-sym : (a b : Option ℕ) → sameNumber a b ≡ sameNumber b a

@@ -1,9 +1,7 @@
 // Reading strips into layouts, one field after another.
 ghost use mathlib.Core.Path.{_≡_};
-ghost use mathlib.Core.List.{[], _∷_};
 ghost use Prim.Native.Nat.{_+_, _<_};
 ghost use lib.ListN.{length, getD, drop};
-ghost use Rattle.std.specs.Of.Vec.{vec-items};
 ghost use Rattle.std.specs.declared.result.Result.the-variants.{Ok};
 ghost use Rattle.layouts.specs.Layouts.{recordOf, digitsOf, sameNumber, noneNamed};
 ghost use Rattle.strips.specs.Layers.{listsOf, layoutsOf};
@@ -23,6 +21,9 @@ use basics::refusal::Reason;
 use lawful::layout::is_lawful;
 use layouts::field::Field;
 use std::alloc::Global;
+
+// How many layouts a set has at most.
+const MOST_LAYOUTS: usize = 8;
 
 // The digits of a U field.
 fn record_of(f: Field) -> Option<u32>
@@ -105,9 +106,7 @@ impl Reader {
         done.push(fields)?;
         Ok(done)
     }
-}
 
-impl Reader {
     // The next layout is open: its U field stands at this byte.
     fn open(
         done: Vec<Vec<Field>>,
@@ -117,7 +116,7 @@ impl Reader {
     ) -> Result<Reader, LoadError>
         ensures { λ r. ⌜ Answers r readingOf (opened byte (layoutsOf done) field) ⌝ }
     {
-        if done.len() >= 8 {
+        if done.len() >= MOST_LAYOUTS {
             return Err(LoadError::Refused(refused(Reason::TooManyLayouts, byte)));
         }
         if !is_new(record_of(field), &done) {

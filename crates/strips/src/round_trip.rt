@@ -1,5 +1,4 @@
 // Sets by way of their strips, and strips by way of their set: both come back the same.
-ghost use mathlib.Core.Path.{_≡_};
 ghost use Rattle.std.specs.Of.Vec.{vec-items};
 ghost use Rattle.std.specs.declared.result.Result.the-variants.{Ok};
 ghost use Rattle.layouts.specs.Tables.{builtIn};

@@ -1,14 +1,13 @@
-use mathlib.Core.Path.{_≡_, sym, ap, _∙_}
-use Prim.Native.Nat.{_+_, _<_, _≤_}
+use mathlib.Core.Path.{sym, ap, _∙_}
+use Prim.Native.Nat.{_+_, _<_}
 use native.Mathlib.Omega.{arith}
-use lib.ListN.{length, getD, drop}
+use lib.ListN.{length}
 use Rattle.std.proofs.shelf.Lists.{length-drop}
 use Rattle.std.proofs.shelf.Results.{err-from-errBy}
 use Rattle.std.proofs.shelf.Tests.{eqb-false}
 use Rattle.strips.specs.Layers.{layoutsOf}
-use Rattle.strips.specs.Loads.{start, closed, widthOf, readFrom, read}
+use Rattle.strips.specs.Loads.{closed, read}
 use Rattle.strips.specs.Readers.{readingOf}
-use Rattle.strips.specs.Strips.{kindOf}
 use Rattle.strips.proofs.ReaderLaws.{tells-on, tells-same, answers-same}
 use Rattle.strips.proofs.Steps.{turn, width-there, read-more, read-end, read-first}
 use Rattle.strips.proofs.reader.read_strips.Needs as need

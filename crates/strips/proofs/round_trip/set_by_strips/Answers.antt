@@ -1,4 +1,4 @@
-use mathlib.Core.Path.{_≡_, sym, ap, _∙_}
+use mathlib.Core.Path.{sym, ap, _∙_}
 use Rattle.strips.specs.Loads.{read}
 use Rattle.strips.proofs.Complete.{writes-read}
 use Rattle.strips.proofs.round_trip.set_by_strips.Needs as need

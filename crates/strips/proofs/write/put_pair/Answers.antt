@@ -1,4 +1,4 @@
-use mathlib.Core.Path.{_≡_, sym, ap, _∙_}
+use mathlib.Core.Path.{ap, _∙_}
 use mathlib.Core.List.{_++_, append-assoc}
 use Rattle.std.specs.Of.Vec.{vec-items}
 use Rattle.basics.specs.Decimals.{digits}

@@ -6,14 +6,13 @@ use native.Mathlib.Omega.{arith}
 use lib.ListN.{length}
 use Rattle.std.specs.Of.Vec.{vec-items}
 use Rattle.std.specs.declared.result.Result.the-variants.{Ok, Err}
-use Rattle.layouts.specs.Layouts.{recordOf, noneNamed}
+use Rattle.layouts.specs.Layouts.{noneNamed}
 use Rattle.strips.specs.Layers.{listsOf, layoutsOf}
-use Rattle.strips.specs.Loads.{Reading}
 use Rattle.strips.proofs.ReaderLaws.{length-layouts, opened-late, opened-early}
 use Rattle.strips.proofs.reader.Reader.open.Needs as need
 
-pub returns-then-len-ge8 : need.returns-then-len-ge8
-returns-then-len-ge8 c =
+pub returns-then-len-ge-MOST-LAYOUTS : need.returns-then-len-ge-MOST-LAYOUTS
+returns-then-len-ge-MOST-LAYOUTS c =
     let n = length-layouts (c .args .done) in
     let l = c .len .ensures in
     let h : 8 ≤ length (layoutsOf (c .args .done)) = omega arith in
