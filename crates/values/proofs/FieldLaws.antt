@@ -177,7 +177,7 @@ pub record PartsShown (fs : List Field) (bytes : List ℕ) (rs rest : List Value
   pub whole : joining parts ≡ s
   pub shown : ShowsThen bytes rs (valuesIn fs parts) rest
 
-placed-done : (i : ℕ) (x : Step ℕ) (a : List ℕ) (m : List ValueRow) → placed i x ≡ done a m → x ≡ done a m
+pub placed-done : (i : ℕ) (x : Step ℕ) (a : List ℕ) (m : List ValueRow) → placed i x ≡ done a m → x ≡ done a m
 placed-done i (done b r) a m e = let p : b ≡ a = cc in let q : r ≡ m = cc in cc
 placed-done i (refused n) a m e = never e
 
