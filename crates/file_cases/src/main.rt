@@ -63,7 +63,9 @@ fn tell_difference(
 }
 
 const DKK: &[u8] = b"UBT99900000000000017525DKK\r\n";
+
 const EUR: &[u8] = b"UBT99900000000000020000EUR\r\n";
+
 const MOST: &[u8] = b"UBT99900999999999999999DKK\r\n";
 
 fn short_files(rt: LibcRuntime, set: &LoadedSet) -> io::Result<()> {
@@ -75,7 +77,12 @@ fn short_files(rt: LibcRuntime, set: &LoadedSet) -> io::Result<()> {
         "two currencies",
         b"UBT99900000000000017525DKK\r\nUBT99900000000000020000EUR\r\n",
     )?;
-    tell(rt, set, "an unended last line that is bad too", b"UBT99900000000000017525DKK\r\nUBT")?;
+    tell(
+        rt,
+        set,
+        "an unended last line that is bad too",
+        b"UBT99900000000000017525DKK\r\nUBT",
+    )?;
     tell(rt, set, "CR CR LF", b"UBT99900000000000017525DKK\r\r\n")?;
     tell(rt, set, "LF CR", b"UBT99900000000000017525DKK\n\r")?;
     tell(
@@ -101,7 +108,15 @@ fn long_files(rt: LibcRuntime, set: &LoadedSet) -> io::Result<()> {
 }
 
 fn currencies(rt: LibcRuntime, set: &LoadedSet) -> io::Result<()> {
-    for currency in [b"DKK".as_slice(), b"EUR", b"USD", b"dkk", b"DK", b"DKKK", b""] {
+    for currency in [
+        b"DKK".as_slice(),
+        b"EUR",
+        b"USD",
+        b"dkk",
+        b"DK",
+        b"DKKK",
+        b"",
+    ] {
         match total(set, EUR, currency) {
             Ok(sum) => println!(rt, "total: {sum}")?,
             Err(e) => tell_refusal(rt, e)?,

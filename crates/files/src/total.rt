@@ -39,12 +39,7 @@ fn same_currency(one: Currency, other: Currency) -> bool
 }
 
 // What line n pays in the currency, or its first fault as a fault of line n.
-fn paid_in<S: LayoutSet>(
-    set: &S,
-    line: &[u8],
-    n: usize,
-    currency: Currency,
-) -> Result<u64, Refusal>
+fn paid_in<S: LayoutSet>(set: &S, line: &[u8], n: usize, currency: Currency) -> Result<u64, Refusal>
     ensures paid { λ r. ⌜ r ≡ atLine n (paidBy (meaning (now (set .entry))) (currency .letters) (now (line .entry)) (judged (meaning (now (set .entry))) (now (line .entry)))) ⌝ }
     ensures few { λ r. ⌜ made r (λ a. a ≤ 999999999999999) ⌝ }
 {

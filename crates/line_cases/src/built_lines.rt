@@ -69,7 +69,12 @@ fn put_largest(line: &mut Vec<u8>, f: Field) -> Result<(), AllocError> {
 }
 
 // A line of layout j that begins with this name.
-fn line_of(heap: Global, j: usize, name: &[u8], large: bool) -> Result<Vec<u8>, AllocError> {
+pub(crate) fn line_of(
+    heap: Global,
+    j: usize,
+    name: &[u8],
+    large: bool,
+) -> Result<Vec<u8>, AllocError> {
     let mut line = Vec::new(heap);
     line.extend_from_slice(name)?;
     for i in 2..65 {

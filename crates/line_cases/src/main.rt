@@ -4,6 +4,7 @@ mod built_lines;
 mod cases;
 mod files;
 mod tiny;
+mod values;
 
 use std::io;
 
@@ -14,5 +15,8 @@ fn main(rt: LibcRuntime) -> io::Result<()> {
     cases::prefixes(rt)?;
     built_lines::smallest_and_largest(rt)?;
     files::reports(rt)?;
-    files::surveys(rt)
+    files::surveys(rt)?;
+    values::rows_of_a_short_line(rt)?;
+    values::refused_writings(rt)?;
+    values::round_trips(rt)
 }

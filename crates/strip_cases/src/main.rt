@@ -56,7 +56,12 @@ fn short_strips(rt: LibcRuntime, set: &mut LoadedSet) -> io::Result<()> {
     tell(rt, set, "no digit in the first body", b"U9990x")?;
     tell(rt, set, "an unlawful layout before a U", b"U99900PU99901PV")?;
     tell(rt, set, "an unlawful layout at the end", b"U99900PVU99901P")?;
-    tell(rt, set, "a U without its body behind an unlawful layout", b"U99900PU9")
+    tell(
+        rt,
+        set,
+        "a U without its body behind an unlawful layout",
+        b"U99900PU9",
+    )
 }
 
 fn bodies(rt: LibcRuntime, set: &mut LoadedSet) -> io::Result<()> {
@@ -74,7 +79,12 @@ fn bodies(rt: LibcRuntime, set: &mut LoadedSet) -> io::Result<()> {
     tell(rt, set, "W61", b"U99900PVW61")?;
     tell(rt, set, "E with a control byte", b"U99900PVE\x1fNNN")?;
     tell(rt, set, "E with byte 160", b"U99900PVE\xa0NNN")?;
-    tell(rt, set, "all kinds", b"U99900PVR0001N01Z01T001Q001B001DYEABCDL0001W01")
+    tell(
+        rt,
+        set,
+        "all kinds",
+        b"U99900PVR0001N01Z01T001Q001B001DYEABCDL0001W01",
+    )
 }
 
 // So many days behind an amount and a currency: a layout of 3 more fields.
@@ -145,7 +155,10 @@ fn random(rt: LibcRuntime, set: &mut LoadedSet) -> io::Result<()> {
         }
     }
     if loaded > 0 && loaded == same {
-        println!(rt, "2,000 random strips: all that are loaded are written back the same")
+        println!(
+            rt,
+            "2,000 random strips: all that are loaded are written back the same"
+        )
     } else {
         println!(rt, "2,000 random strips: {loaded} loaded, {same} the same")
     }
@@ -164,7 +177,10 @@ fn main(rt: LibcRuntime) -> io::Result<()> {
         Ok(built_in) => {
             let layouts = built_in.layouts();
             let fields = fields_of(&built_in);
-            println!(rt, "the built-in set by its strips: {layouts} layouts, the last of {fields} fields")
+            println!(
+                rt,
+                "the built-in set by its strips: {layouts} layouts, the last of {fields} fields"
+            )
         }
         Err(_) => println!(rt, "the built-in set is not loaded"),
     }

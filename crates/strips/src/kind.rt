@@ -33,7 +33,7 @@ pub enum Kind {
 }
 
 // The kind that the letter names.
-pub fn kind_of(kind: u8) -> Option<Kind>
+pub(crate) fn kind_of(kind: u8) -> Option<Kind>
     ensures { λ r. ⌜ r ≡ kindOf kind ⌝ }
 {
     match kind as char {
@@ -56,7 +56,7 @@ pub fn kind_of(kind: u8) -> Option<Kind>
 }
 
 // How many bytes the kind's body has.
-pub fn body_width(kind: Kind) -> usize
+pub(crate) fn body_width(kind: Kind) -> usize
     ensures { λ r. ⌜ r ≡ bodyWidth kind ⌝ }
 {
     match kind {
@@ -149,7 +149,7 @@ fn field_in(kind: Kind, body: &[u8]) -> Option<Field>
 }
 
 // A refusal of strips.
-pub fn refused(reason: Reason, byte: usize) -> Refusal
+pub(crate) fn refused(reason: Reason, byte: usize) -> Refusal
     ensures { λ r. ⌜ r ≡ record { reason = reason; layer = Layer.Strips; line = 0; field = 0; byte = byte } ⌝ }
 {
     Refusal {
@@ -162,7 +162,7 @@ pub fn refused(reason: Reason, byte: usize) -> Refusal
 }
 
 // The field of the kind whose letter stands behind the place.
-pub fn field_at(kind: Kind, strips: &[u8], place: usize) -> Result<Field, Refusal>
+pub(crate) fn field_at(kind: Kind, strips: &[u8], place: usize) -> Result<Field, Refusal>
     requires { ⌜ place < length (now strips) ⌝ }
     ensures { λ r. ⌜ r ≡ fieldFrom (place + 1) kind (drop (place + 1) (now (strips .entry))) ⌝ }
 {

@@ -78,7 +78,7 @@ pub struct Reader {
 
 impl Reader {
     // Nothing is read.
-    pub fn new(heap: Global) -> Reader
+    pub(crate) fn new(heap: Global) -> Reader
         ensures { λ r. ⌜ readingOf r ≡ start ⌝ }
     {
         Reader {
@@ -89,7 +89,7 @@ impl Reader {
     }
 
     // The layouts, with the open one finished.
-    pub fn close(self) -> Result<Vec<Vec<Field>>, LoadError>
+    pub(crate) fn close(self) -> Result<Vec<Vec<Field>>, LoadError>
         ensures { λ r. ⌜ Answers r layoutsOf (closed (readingOf self)) ⌝ }
     {
         let Reader {
@@ -162,7 +162,7 @@ impl Reader {
     }
 
     // What stands behind the place is read too, as far as one field.
-    pub fn step(self, strips: &[u8], place: usize, heap: Global) -> Result<Reader, LoadError>
+    pub(crate) fn step(self, strips: &[u8], place: usize, heap: Global) -> Result<Reader, LoadError>
         requires { ⌜ place < length (now strips) ⌝ }
         ensures { λ r. ⌜ Answers r readingOf (stepped (place + 1) (readingOf self) (getD (now (strips .entry)) place 0) (drop (place + 1) (now (strips .entry)))) ⌝ }
     {
@@ -184,7 +184,7 @@ fn width_after(letter: u8) -> usize
 }
 
 // The layouts that the strips write, or the first refusal.
-pub fn read_strips(strips: &[u8], heap: Global) -> Result<Vec<Vec<Field>>, LoadError>
+pub(crate) fn read_strips(strips: &[u8], heap: Global) -> Result<Vec<Vec<Field>>, LoadError>
     ensures { λ r. ⌜ Answers r layoutsOf (read (now (strips .entry))) ⌝ }
 {
     if strips.is_empty() {
