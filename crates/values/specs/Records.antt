@@ -24,3 +24,10 @@ pub record ShowsRecord (ls : List (List Field)) (n : ℕ) (bytes : List ℕ) (rs
   pub values : List Value
   pub is : IsRecord ls n values line
   pub shown : ShowsAll bytes rs values
+
+-- two lines are the same record: a record of the set with the same digits and the same values
+pub record SameRecord (ls : List (List Field)) (s t : List ℕ) : Type 0 where
+  pub digits : ℕ
+  pub values : List Value
+  pub one : IsRecord ls digits values s
+  pub other : IsRecord ls digits values t
