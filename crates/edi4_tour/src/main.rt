@@ -2,7 +2,9 @@
 // byte. The payment is the first line of standard input.
 mod fields;
 mod names;
+mod own_set;
 mod shown;
+mod values;
 
 use crate::fields::extent;
 use crate::fields::tell_value;
@@ -38,7 +40,7 @@ fn tell_fields(rt: LibcRuntime, j: usize, line: &[u8]) -> io::Result<()> {
     )
 }
 
-fn tell_refusal(rt: LibcRuntime, e: Refusal) -> io::Result<()> {
+pub(crate) fn tell_refusal(rt: LibcRuntime, e: Refusal) -> io::Result<()> {
     let number = e.reason.number();
     let layer = e.layer.number();
     let field = e.field;
@@ -76,6 +78,8 @@ fn main(rt: LibcRuntime) -> io::Result<()> {
         println!(rt, "The same payment with byte 61 damaged, d for D:")?;
         line[60] = b'd';
         tell_line(rt, &line)?;
+        line[60] = b'D';
     }
-    Ok(())
+    values::change_the_amount(rt, &line)?;
+    own_set::judge_with_an_own_set(rt)
 }
