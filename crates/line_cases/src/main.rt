@@ -18,5 +18,6 @@ fn main(rt: LibcRuntime) -> io::Result<()> {
     files::surveys(rt)?;
     values::rows_of_a_short_line(rt)?;
     values::refused_writings(rt)?;
+    values::blank_line_in_a_block(rt)?;
     values::round_trips(rt)
 }

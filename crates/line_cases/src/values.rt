@@ -142,6 +142,31 @@ pub(crate) fn refused_writings(rt: LibcRuntime) -> io::Result<()> {
     )
 }
 
+// A block of a blank line and a full one is read and written back.
+pub(crate) fn blank_line_in_a_block(rt: LibcRuntime) -> io::Result<()> {
+    let line =
+        b"UBT99901000000000017525DKK02                                   Thirty-five bytes of text, no more.";
+    let mut rows = [EMPTY; 5];
+    let mut out = [46u8; 98];
+    let found = match read(&Tiny, line, &mut rows) {
+        Ok(found) => found,
+        Err(e) => return tell(rt, "not read", Err(e)),
+    };
+    for row in rows {
+        let n = row.number;
+        let place = row.place;
+        let length = row.length;
+        println!(rt, "  number {n} place {place} length {length}")?;
+    }
+    match write(&Tiny, found.digits, &rows, line, &mut out) {
+        Ok(98) if out == *line => println!(
+            rt,
+            "a block with a blank line is written back the same"
+        ),
+        _ => println!(rt, "a block with a blank line is not written back"),
+    }
+}
+
 // A line of layout j is read and written back.
 fn there_and_back(rt: LibcRuntime, j: usize, name: &[u8], large: bool) -> io::Result<()> {
     let line = line_of(rt.alloc(), j, name, large)?;
