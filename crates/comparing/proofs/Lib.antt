@@ -1,1 +1,3 @@
 pub mod Equal
+pub mod SameSteps
+pub mod SameLaws

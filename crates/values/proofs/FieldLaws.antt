@@ -19,12 +19,12 @@ use Rattle.values.specs.Writing.{Step, done, refused, before, chain, rowStep, 
 use Rattle.values.proofs.PartLaws.{never, writes-part, reads-part, shows-part}
 
 -- values one after another
-shows-join : (bytes : List ℕ) (rs : List ValueRow) (vs ws : List Value) (mid rest : List ValueRow) → ShowsThen bytes rs vs mid → ShowsThen bytes mid ws rest → ShowsThen bytes rs (vs ++ ws) rest
+pub shows-join : (bytes : List ℕ) (rs : List ValueRow) (vs ws : List Value) (mid rest : List ValueRow) → ShowsThen bytes rs vs mid → ShowsThen bytes mid ws rest → ShowsThen bytes rs (vs ++ ws) rest
 shows-join bytes rs [] ws mid rest d g = subst (λ x. ShowsThen bytes x ws rest) (sym d) g
 shows-join bytes [] (v ∷ vs) ws mid rest d g = absurd d
 shows-join bytes (r ∷ rs) (v ∷ vs) ws mid rest d g = (d .0, shows-join bytes rs vs ws mid rest (d .1) g)
 
-shows-split : (bytes : List ℕ) (rs : List ValueRow) (vs ws : List Value) (rest : List ValueRow) → ShowsThen bytes rs (vs ++ ws) rest → (mid : List ValueRow) × (ShowsThen bytes rs vs mid × ShowsThen bytes mid ws rest)
+pub shows-split : (bytes : List ℕ) (rs : List ValueRow) (vs ws : List Value) (rest : List ValueRow) → ShowsThen bytes rs (vs ++ ws) rest → (mid : List ValueRow) × (ShowsThen bytes rs vs mid × ShowsThen bytes mid ws rest)
 shows-split bytes rs [] ws rest d = (rs, (refl, d))
 shows-split bytes [] (v ∷ vs) ws rest d = absurd d
 shows-split bytes (r ∷ rs) (v ∷ vs) ws rest d = let q = shows-split bytes rs vs ws rest (d .1) in (q .0, ((d .0, q .1 .0), q .1 .1))

@@ -8,12 +8,12 @@ ghost use Rattle.values.specs.Writing.{padded, suits, written};
 ghost use Rattle.writing.specs.Pieces.{partOf};
 use crate::suits::fits;
 use crate::suits::has_room;
-use crate::suits::text_of;
 use basics::bytes::ByteClass;
 use basics::decimal;
 use lines::rules::NumberRule;
 use lines::rules::TextRule;
 use values::row::ValueRow;
+use values::text::text_of;
 
 #[derive(Clone, Copy)]
 pub(crate) enum Piece {

@@ -1,20 +1,16 @@
 // Which numbers and texts a part takes.
 ghost use mathlib.Core.Path.{_≡_};
-ghost use mathlib.Core.Bool.{true, false};
 ghost use Prim.Native.Nat.{_^_, _≤_};
 ghost use lib.Dec.{ltb};
 ghost use lib.ListN.{replicate};
-ghost use Rattle.std.specs.Options.{Cases as BySome};
 ghost use Rattle.basics.specs.Bytes.{allowed, all};
 ghost use Rattle.lines.specs.Rules.{textTest};
-ghost use Rattle.values.specs.Rows.{textAt, inside};
 ghost use Rattle.values.specs.Writing.{fitting};
 use basics::bytes::ByteClass;
 use basics::bytes::allows;
 use basics::bytes::first_forbidden;
 use basics::text::trimmed;
 use lines::rules::TextRule;
-use values::row::ValueRow;
 
 // Ten to the power w.
 fn ten_to(w: u8) -> u64
@@ -36,18 +32,6 @@ pub(crate) fn has_room(w: u8, n: u64) -> bool
         return true;
     }
     n < ten_to(w)
-}
-
-// The text that a row points to, or none where it lies outside of the bytes.
-pub(crate) fn text_of(bytes: &[u8], row: ValueRow) -> Option<&[u8]>
-    ensures { λ r. ⌜ BySome r (inside (now (bytes .entry)) row ≡ false) (λ t. (inside (now (bytes .entry)) row ≡ true) × (now t ≡ textAt (now (bytes .entry)) row)) ⌝ }
-{
-    if row.place == 0 || row.length > bytes.len() || row.place - 1 > bytes.len() - row.length {
-        return None;
-    }
-    let from = row.place - 1;
-    let end = from + row.length;
-    Some(&bytes[from..end])
 }
 
 // Whether so many blanks are of a class.
