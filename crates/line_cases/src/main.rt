@@ -19,5 +19,6 @@ fn main(rt: LibcRuntime) -> io::Result<()> {
     values::rows_of_a_short_line(rt)?;
     values::refused_writings(rt)?;
     values::blank_line_in_a_block(rt)?;
+    values::equality(rt)?;
     values::round_trips(rt)
 }

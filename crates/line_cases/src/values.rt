@@ -3,6 +3,9 @@ use crate::built_lines::line_of;
 use crate::cases::tell;
 use crate::tiny::Tiny;
 use crate::tiny::TinySet;
+use basics::refusal::Refusal;
+use comparing::records::same_record;
+use comparing::rows::same_values;
 use layouts::built_in::BuiltIn;
 use layouts::built_in::BuiltInSet;
 use reading::read::read;
@@ -165,6 +168,49 @@ pub(crate) fn blank_line_in_a_block(rt: LibcRuntime) -> io::Result<()> {
         ),
         _ => println!(rt, "a block with a blank line is not written back"),
     }
+}
+
+fn tell_same(rt: LibcRuntime, what: &str, answer: Result<bool, Refusal>) -> io::Result<()> {
+    match answer {
+        Ok(same) => println!(rt, "{what}: {same}"),
+        Err(e) => tell(rt, what, Err(e)),
+    }
+}
+
+// Equal records and equal lists of rows: what a row does not use is set aside.
+pub(crate) fn equality(rt: LibcRuntime) -> io::Result<()> {
+    let dkk = b"UBT99900000000000017525DKK";
+    let eur = b"UBT99900000000000017525EUR";
+    tell_same(rt, "the same record", same_record(&Tiny, dkk, dkk))?;
+    tell_same(rt, "another currency", same_record(&Tiny, dkk, eur))?;
+    tell_same(rt, "the other is bad", same_record(&Tiny, dkk, b"UBT"))?;
+    let rows = [number(17525), text(24, 3)];
+    let odd = ValueRow {
+        number: 17525,
+        place: 8,
+        length: 9,
+    };
+    let others = [odd, text(1, 3)];
+    tell_same(
+        rt,
+        "the same values elsewhere",
+        same_values(&Tiny, 99900, &rows, dkk, &others, b"DKK"),
+    )?;
+    tell_same(
+        rt,
+        "another text",
+        same_values(&Tiny, 99900, &rows, dkk, &others, b"EUR"),
+    )?;
+    tell_same(
+        rt,
+        "a row less",
+        same_values(&Tiny, 99900, &rows, dkk, &others[0..1], b"DKK"),
+    )?;
+    tell_same(
+        rt,
+        "unknown digits",
+        same_values(&Tiny, 1, &rows, dkk, &others, b"DKK"),
+    )
 }
 
 // A line of layout j is read and written back.
