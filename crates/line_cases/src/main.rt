@@ -17,7 +17,9 @@ fn main(rt: LibcRuntime) -> io::Result<()> {
     files::reports(rt)?;
     files::surveys(rt)?;
     values::rows_of_a_short_line(rt)?;
-    values::refused_writings(rt)?;
+    values::refused_rows(rt)?;
+    values::refused_texts(rt)?;
+    values::refused_blocks(rt)?;
     values::blank_line_in_a_block(rt)?;
     values::equality(rt)?;
     values::round_trips(rt)

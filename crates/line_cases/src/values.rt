@@ -81,7 +81,8 @@ fn tell_write(
     }
 }
 
-pub(crate) fn refused_writings(rt: LibcRuntime) -> io::Result<()> {
+// Digits that no layout has, too few and too many rows, numbers out of bounds.
+pub(crate) fn refused_rows(rt: LibcRuntime) -> io::Result<()> {
     let amount = number(17525);
     let currency = text(1, 3);
     tell_write(rt, "two rows", 99900, &[amount, currency], b"DKK")?;
@@ -102,7 +103,13 @@ pub(crate) fn refused_writings(rt: LibcRuntime) -> io::Result<()> {
         99900,
         &[number(1_000_000_000_000_000), currency],
         b"DKK",
-    )?;
+    )
+}
+
+// Texts outside of their bytes, and texts that are no currency.
+pub(crate) fn refused_texts(rt: LibcRuntime) -> io::Result<()> {
+    let amount = number(17525);
+    let currency = text(1, 3);
     tell_write(rt, "place 0", 99900, &[amount, text(0, 3)], b"DKK")?;
     tell_write(
         rt,
@@ -120,7 +127,13 @@ pub(crate) fn refused_writings(rt: LibcRuntime) -> io::Result<()> {
     )?;
     tell_write(rt, "a short currency", 99900, &[amount, text(1, 2)], b"DKK")?;
     tell_write(rt, "a long currency", 99900, &[amount, text(1, 4)], b"DKKK")?;
-    tell_write(rt, "small letters", 99900, &[amount, currency], b"dkk")?;
+    tell_write(rt, "small letters", 99900, &[amount, currency], b"dkk")
+}
+
+// Blocks whose rows, count, text or room do not do.
+pub(crate) fn refused_blocks(rt: LibcRuntime) -> io::Result<()> {
+    let amount = number(17525);
+    let currency = text(1, 3);
     tell_write(
         rt,
         "a block without its line",
