@@ -1,12 +1,12 @@
 -- One turn of the walk over the fields of a line.
 use mathlib.Core.Path.{_≡_, refl, sym, ap, subst, _∙_}
-use mathlib.Core.Bool.{Bool, true, false, not, _&&_}
+use mathlib.Core.Bool.{true, not, _&&_}
 use mathlib.Core.List.{List, [], _∷_, _++_}
-use Prim.Native.Nat.{ℕ, zero, suc, _+_, _-_, _*_, _≤_, _<_}
+use Prim.Native.Nat.{ℕ, zero, suc, _+_, _-_, _≤_}
 use native.Mathlib.Omega.{arith}
 use lib.Dec.{leb, eqb}
 use lib.ListN.{length, take, drop, length-append}
-use Rattle.std.proofs.shelf.Lists.{drop-drop, drop-at, take-at, length-take, length-drop}
+use Rattle.std.proofs.shelf.Lists.{drop-drop, drop-at, take-at, length-drop}
 use Rattle.std.proofs.shelf.Tests.{and-parts, leb-true}
 use Rattle.std.specs.declared.option.Option.{Option}
 use Rattle.std.specs.declared.option.Option.the-variants.{Some, None}
