@@ -3,13 +3,10 @@ use mathlib.Core.Path.{_≡_, refl, sym, ap, subst, _∙_}
 use mathlib.Core.Bool.{Bool, true, false}
 use mathlib.Core.List.{List}
 use Prim.Native.Nat.{ℕ}
-use borrow.Author.Tests.{clash}
 use Rattle.std.specs.Orderings.{Decides}
 use Rattle.std.specs.shelf.Text.{sameBytes}
 use Rattle.std.proofs.shelf.Equals.{sameBytes-decides}
-use Rattle.std.specs.declared.result.Result.{Result}
-use Rattle.std.specs.declared.result.Result.the-variants.{Ok, Err}
-use Rattle.basics.specs.declared.refusal.Refusal.{Refusal}
+use Rattle.std.specs.declared.result.Result.the-variants.{Ok}
 use Rattle.layouts.specs.declared.field.Field.{Field}
 use Rattle.layouts.specs.Layouts.{isLawful, digitsOf}
 use Rattle.layouts.proofs.Laws.{lawful-layouts}

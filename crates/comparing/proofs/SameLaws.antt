@@ -1,8 +1,8 @@
 -- Equal rows show the same values, and of records, the same line.
 use mathlib.Core.Path.{_≡_, refl, sym, ap, subst, _∙_}
-use mathlib.Core.Bool.{Bool, true, false, cond, _&&_}
+use mathlib.Core.Bool.{Bool, true, cond, _&&_}
 use mathlib.Core.List.{List, [], _∷_, _++_, map}
-use Prim.Native.Nat.{ℕ, zero, suc, _+_, _-_, _≤_, _<_}
+use Prim.Native.Nat.{ℕ, zero, suc, _+_, _-_}
 use native.Mathlib.Omega.{arith}
 use borrow.Author.Tests.{clash}
 use lib.Dec.{eqb}
@@ -13,26 +13,24 @@ use Rattle.std.specs.shelf.Text.{sameBytes}
 use Rattle.std.proofs.shelf.Equals.{sameBytes-decides}
 use Rattle.std.proofs.shelf.Lists.{drop-drop, nil-from-length}
 use Rattle.std.proofs.shelf.Tests.{and-parts, and-from, eqb-true, eq-eqb}
-use Rattle.std.specs.declared.option.Option.{Option}
 use Rattle.std.specs.declared.option.Option.the-variants.{Some, None}
 use Rattle.std.specs.declared.result.Result.{Result}
 use Rattle.std.specs.declared.result.Result.the-variants.{Ok, Err}
 use Rattle.basics.specs.declared.refusal.Refusal.{Refusal}
 use Rattle.basics.specs.Decimals.{numberOf}
 use Rattle.basics.specs.Texts.{trim}
-use Rattle.basics.proofs.ByteLaws.{absurd-none, same-some}
+use Rattle.basics.proofs.ByteLaws.{same-some}
 use Rattle.layouts.specs.declared.field.Field.{Field}
 use Rattle.layouts.specs.Kinds.{constant, figures, letters, code, Shape, one, block, shape}
-use Rattle.layouts.specs.Layouts.{place, layoutAt, orEmpty, isLawful, digitsOf}
+use Rattle.layouts.specs.Layouts.{place, orEmpty, isLawful, digitsOf}
 use Rattle.layouts.proofs.Laws.{lawful-layouts}
-use Rattle.lines.specs.Judging.{found}
-use Rattle.lines.specs.Belongs.{Parts, joining, Follows}
+use Rattle.lines.specs.Belongs.{Parts, Follows}
 use Rattle.lines.proofs.Steps.{same-ok}
 use Rattle.lines.proofs.Names.{positive, found-at}
 use Rattle.values.specs.declared.row.ValueRow.{ValueRow}
 use Rattle.values.specs.Values.{Value, isNumber, isText, lineValues, fieldValues, valuesIn, valuesOf}
 use Rattle.values.specs.Rows.{textAt, inside, ShowsThen, ShowsAll}
-use Rattle.values.specs.Records.{IsRecord, ShowsRecord}
+use Rattle.values.specs.Records.{ShowsRecord}
 use Rattle.values.specs.Writing.{firstNumber}
 use Rattle.values.proofs.FieldLaws.{shows-join, shows-split}
 use Rattle.values.proofs.RecordLaws.{cut-follows, writes-record}

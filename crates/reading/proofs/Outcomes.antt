@@ -8,14 +8,13 @@ use lib.ListN.{length, take, drop}
 use Rattle.std.proofs.shelf.Lists.{take-at}
 use Rattle.std.proofs.shelf.Tests.{lt-ltb, le-ltb}
 use Rattle.std.specs.Vec.{made}
-use Rattle.std.specs.declared.option.Option.{Option}
-use Rattle.std.specs.declared.option.Option.the-variants.{Some, None}
+use Rattle.std.specs.declared.option.Option.the-variants.{Some}
 use Rattle.std.specs.declared.result.Result.{Result}
 use Rattle.std.specs.declared.result.Result.the-variants.{Ok, Err}
 use Rattle.basics.specs.declared.refusal.Refusal.{Refusal}
 use Rattle.basics.specs.Refusals.{refusal}
 use Rattle.layouts.specs.declared.field.Field.{Field}
-use Rattle.layouts.specs.Layouts.{place, layoutAt, orEmpty, isLawful, digitsOf}
+use Rattle.layouts.specs.Layouts.{layoutAt, orEmpty, isLawful, digitsOf}
 use Rattle.layouts.proofs.Laws.{lawful-layouts}
 use Rattle.lines.specs.Judging.{judged}
 use Rattle.lines.specs.Belongs.{Follows, BelongsAs}
@@ -25,8 +24,7 @@ use Rattle.values.specs.declared.row.ValueRow.{ValueRow}
 use Rattle.values.specs.Rows.{rowsOf}
 use Rattle.values.specs.Records.{ShowsRecord}
 use Rattle.values.proofs.RecordLaws.{rows-record}
-use Rattle.reading.specs.declared.read.Reading.{Reading}
-use Rattle.reading.specs.Reading.{orZero, readingOf, readAs, readBy, answerTo, inFront, rowsBy, rowsAfter}
+use Rattle.reading.specs.Reading.{orZero, readingOf, readBy, answerTo, rowsBy, rowsAfter}
 
 pub belongs-follows : (ls : List (List Field)) (j : ℕ) (line : List ℕ) → BelongsAs ls j line → Follows (layoutAt ls j) line
 belongs-follows ls j line b = subst (λ l. Follows l line) (sym (ap orEmpty (b .at))) (b .follows)

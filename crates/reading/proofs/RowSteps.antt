@@ -1,6 +1,6 @@
 -- Rows laid one after another, and what a lawful part says of them.
 use mathlib.Core.Path.{_≡_, refl, sym, ap, subst, _∙_}
-use mathlib.Core.Bool.{Bool, true}
+use mathlib.Core.Bool.{Bool}
 use mathlib.Core.List.{List, [], _∷_, _++_, append-assoc}
 use Prim.Native.Nat.{ℕ, zero, suc, _+_, _-_, _*_, _^_, _≤_, _<_}
 use native.Mathlib.Nat.{add-zero, zero-add}
@@ -8,7 +8,6 @@ use native.Mathlib.Omega.{arith}
 use lib.ListN.{length, take, drop, set, length-set}
 use Rattle.std.proofs.shelf.Lists.{drop-drop, take-take, take-append-drop, take-more-set, drop-set-lt, length-take}
 use Rattle.basics.specs.Decimals.{numberOf}
-use Rattle.basics.specs.Texts.{trim}
 use Rattle.basics.proofs.DigitLaws.{Digits, number-lt}
 use Rattle.layouts.specs.Kinds.{Shape, count, block}
 use Rattle.lines.specs.Belongs as lines

@@ -2,7 +2,6 @@
 ghost use mathlib.Core.Path.{_≡_};
 ghost use lib.ListN.{length, take};
 ghost use Rattle.std.specs.Vec.{made};
-ghost use Rattle.layouts.specs.Layouts.{layoutAt, digitsOf};
 ghost use Rattle.lines.specs.Judging.{recordAt};
 ghost use Rattle.values.specs.Records.{ShowsRecord};
 ghost use Rattle.reading.specs.Reading.{orZero, answerTo, rowsAfter};

@@ -1,13 +1,11 @@
 -- The laws of a field, and of the parts of a layout.
 use mathlib.Core.Path.{_≡_, refl, sym, ap, subst, _∙_}
-use mathlib.Core.Bool.{Bool, true}
-use mathlib.Core.List.{List, [], _∷_, _++_, append-assoc, append-nil}
+use mathlib.Core.Bool.{Bool}
+use mathlib.Core.List.{List, [], _∷_, _++_, append-assoc}
 use Prim.Native.Nat.{ℕ, zero, suc, _+_, _-_, _*_, _≤_, _<_}
 use native.Mathlib.Omega.{arith}
 use lib.ListN.{length, take, drop, length-append}
-use Rattle.std.proofs.shelf.Lists.{take-append-drop, take-at, drop-at, take-append-le, drop-drop, length-take, length-drop, length-take-le, nil-from-length}
-use Rattle.basics.specs.declared.refusal.Refusal.{Refusal}
-use Rattle.basics.specs.Refusals.{refusal}
+use Rattle.std.proofs.shelf.Lists.{take-append-drop, take-at, drop-at, take-append-le, drop-drop, length-take, length-drop, nil-from-length}
 use Rattle.basics.specs.Decimals.{numberOf}
 use Rattle.layouts.specs.declared.field.Field.{Field}
 use Rattle.layouts.specs.Kinds.{Part, Shape, one, block, shape, count, line, width}

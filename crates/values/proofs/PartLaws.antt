@@ -2,7 +2,7 @@
 use mathlib.Core.Path.{_≡_, refl, sym, ap, subst, _∙_}
 use mathlib.Core.Bool.{Bool, true, false, cond, _&&_}
 use mathlib.Core.List.{List, [], _∷_, _++_}
-use Prim.Native.Nat.{ℕ, zero, suc, _+_, _-_, _^_, _≤_, _<_}
+use Prim.Native.Nat.{ℕ, _+_, _-_, _^_, _≤_, _<_}
 use native.Mathlib.Omega.{arith}
 use lib.Dec.{leb, ltb, eqb}
 use lib.ListN.{length, take, drop, getD}
@@ -14,12 +14,12 @@ use Rattle.basics.specs.Decimals.{numberOf, digits}
 use Rattle.basics.specs.Texts.{trim}
 use Rattle.basics.proofs.ByteLaws.{at-all, all-at}
 use Rattle.basics.proofs.DigitLaws.{Digits, digits-back, number-back, number-lt, length-digits, digits-are}
-use Rattle.layouts.specs.Kinds.{Part, constant, figures, letters, code, width, allows}
+use Rattle.layouts.specs.Kinds.{Part, constant, figures, letters, code, width}
 use Rattle.lines.specs.Belongs.{Fit}
 use Rattle.values.specs.declared.row.ValueRow.{ValueRow}
 use Rattle.values.specs.Values.{partValues}
 use Rattle.values.specs.Rows.{partRows, textAt, inside, ShowsThen}
-use Rattle.values.specs.Writing.{padded, fitting, suits, Step, done, refused, partStep}
+use Rattle.values.specs.Writing.{padded, fitting, Step, done, refused, partStep}
 use Rattle.values.proofs.Padding.{pad-back, trim-back, trim-twice, trim-take, trim-le, length-padded, untrailed}
 
 -- bytes that fit

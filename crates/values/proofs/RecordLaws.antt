@@ -1,20 +1,18 @@
 -- The laws of a record: read and written, it is the same; what is written is a record of the set.
 use mathlib.Core.Path.{_≡_, refl, sym, ap, subst, _∙_}
-use mathlib.Core.List.{List, [], _∷_, _++_, append-nil}
+use mathlib.Core.List.{List, [], _∷_, append-nil}
 use mathlib.Core.Bool.{true}
-use Prim.Native.Nat.{ℕ, suc, _+_, _-_, _≤_}
+use Prim.Native.Nat.{ℕ, suc, _+_, _-_}
 use native.Mathlib.Omega.{arith}
-use lib.ListN.{length}
 use Rattle.std.specs.declared.option.Option.{Option}
 use Rattle.std.specs.declared.option.Option.the-variants.{Some, None}
-use Rattle.std.specs.declared.result.Result.the-variants.{Ok, Err}
+use Rattle.std.specs.declared.result.Result.the-variants.{Ok}
 use Rattle.basics.specs.declared.refusal.Refusal.{Refusal}
-use Rattle.basics.specs.Refusals.{refusal}
 use Rattle.layouts.specs.declared.field.Field.{Field}
-use Rattle.layouts.specs.Layouts.{place, layoutAt, orEmpty, isLawful, digitsOf}
+use Rattle.layouts.specs.Layouts.{place, orEmpty, isLawful, digitsOf}
 use Rattle.layouts.proofs.Laws.{lawful-layouts}
 use Rattle.lines.specs.Judging.{found}
-use Rattle.lines.specs.Belongs.{Parts, joining, Follows}
+use Rattle.lines.specs.Belongs.{Follows}
 use Rattle.lines.proofs.Steps.{absurd-err, same-ok}
 use Rattle.lines.proofs.Names.{positive, found-at, found-has}
 use Rattle.values.specs.declared.row.ValueRow.{ValueRow}

@@ -1,5 +1,4 @@
 -- The forms of the code as the table of kinds has them.
-use Prim.Native.Nat.{ℕ}
 use lib.ListN.{replicate}
 use Rattle.basics.specs.declared.bytes.ByteClass.the-variants as class
 use Rattle.basics.specs.Bytes.{allowed}

@@ -1,7 +1,7 @@
 -- What writing answers and leaves, and what that says of records.
 use mathlib.Core.Path.{_≡_, refl, sym, ap, subst, _∙_}
 use mathlib.Core.Bool.{Bool, true, false, cond}
-use mathlib.Core.List.{List, [], _∷_, _++_}
+use mathlib.Core.List.{List, [], _∷_}
 use Prim.Native.Nat.{ℕ, _+_, _-_, _≤_, _<_}
 use native.Mathlib.Omega.{arith}
 use lib.Dec.{ltb}
@@ -26,9 +26,9 @@ use Rattle.values.specs.Writing.{Step, done, refused, placed, fieldStep, fieldS
 use Rattle.values.proofs.FieldLaws.{chained, placed-done}
 use Rattle.values.proofs.RecordLaws.{reads-record, writes-record}
 use Rattle.writing.specs.declared.size.Size.{Size}
-use Rattle.writing.specs.Sizes.{isDone, bytesOf, sized, inFront}
+use Rattle.writing.specs.Sizes.{sized, inFront}
 use Rattle.writing.specs.Answers.{lengthOf, memoryAfter}
-use Rattle.writing.proofs.StepLaws.{Tail, field-tail, tail-size}
+use Rattle.writing.proofs.StepLaws.{Tail, field-tail}
 
 -- the rows that fields leave are the last ones
 fields-tail : (i : ℕ) (fs : List Field) (bytes : List ℕ) (rs : List ValueRow) (b : List ℕ) (rest : List ValueRow) → fieldSteps i fs bytes rs ≡ done b rest → (v : ℕ) × Tail rs rest v

@@ -1,7 +1,7 @@
 -- Steps that are known to end well, written one after another.
 use mathlib.Core.Path.{_≡_, refl, sym, ap, subst, _∙_}
-use mathlib.Core.Bool.{Bool, true, false}
-use mathlib.Core.List.{List, [], _∷_, _++_, append-nil}
+use mathlib.Core.Bool.{Bool, true}
+use mathlib.Core.List.{List, [], _++_, append-nil}
 use Prim.Native.Nat.{ℕ, suc, _+_, _-_, _*_, _^_, _≤_, _<_}
 use native.Mathlib.Omega.{arith}
 use borrow.Author.Tests.{clash}
@@ -11,7 +11,6 @@ use lib.ListN.{length, take, drop, getD, length-append, take-append-drop}
 use Rattle.std.proofs.shelf.Lists.{drop-drop, drop-more, length-take, length-drop}
 use Rattle.std.proofs.shelf.Tests.{and-parts, ltb-true}
 use Rattle.std.specs.declared.option.Option.the-variants.{Some, None}
-use Rattle.basics.specs.declared.refusal.Refusal.{Refusal}
 use Rattle.layouts.specs.declared.field.Field.{Field}
 use Rattle.basics.specs.Decimals.{digits}
 use Rattle.layouts.specs.Kinds.{Part, Shape, shape, count, line, width}
@@ -22,7 +21,7 @@ use Rattle.values.specs.Writing.{suits, written, Step, done, refused, before, c
 use Rattle.writing.specs.declared.size.Size.{Size}
 use Rattle.writing.specs.Sizes.{isDone, bytesOf, sizeOf, inFront}
 use Rattle.values.proofs.FieldLaws.{chained, placed-done}
-use Rattle.writing.proofs.StepLaws.{before-none, before-before, RowDone, row-done, lines-tail, field-tail, tail-size}
+use Rattle.writing.proofs.StepLaws.{before-none, before-before, row-done, lines-tail, field-tail, tail-size}
 use Rattle.writing.proofs.SizeLaws.{first-is}
 use Rattle.writing.proofs.Memory.{put-exact, put-rest, front-then, behind-then}
 

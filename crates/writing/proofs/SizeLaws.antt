@@ -1,14 +1,13 @@
 -- The size of a step.
 use mathlib.Core.Path.{_≡_, refl, sym, ap, subst, _∙_}
-use mathlib.Core.Bool.{Bool, true, false}
+use mathlib.Core.Bool.{Bool}
 use mathlib.Core.List.{List, [], _∷_}
 use Prim.Native.Nat.{ℕ, suc, _+_, _-_, _*_, _^_, _≤_, _<_}
 use native.Mathlib.Omega.{arith}
 use lib.Dec.{ltb}
 use lib.ListN.{length, getD, drop, length-append}
-use Rattle.std.proofs.shelf.Lists.{drop-drop, drop-more, length-drop}
+use Rattle.std.proofs.shelf.Lists.{drop-drop, length-drop}
 use Rattle.std.proofs.shelf.Tests.{and-parts, ltb-true}
-use Rattle.std.specs.declared.option.Option.{Option}
 use Rattle.std.specs.declared.option.Option.the-variants.{Some, None}
 use Rattle.std.specs.Vec.{made}
 use Rattle.std.specs.declared.result.Result.{Result}
@@ -23,8 +22,8 @@ use Rattle.lines.proofs.Steps.{absurd-err, same-ok, same-err}
 use Rattle.values.specs.declared.row.ValueRow.{ValueRow}
 use Rattle.values.specs.Writing.{Step, done, refused, before, chain, rowStep, lineSteps, firstNumber, fieldStep, placed, fieldSteps}
 use Rattle.writing.specs.declared.size.Size.{Size}
-use Rattle.writing.specs.Sizes.{sizeOf, sized}
-use Rattle.writing.proofs.StepLaws.{Ahead, ahead-none, ahead-more, ahead-stop, ahead-end, row-done, Tail, lines-tail, field-tail, tail-size}
+use Rattle.writing.specs.Sizes.{sized}
+use Rattle.writing.proofs.StepLaws.{Ahead, ahead-none, ahead-more, ahead-stop, ahead-end, row-done, lines-tail, field-tail, tail-size}
 
 -- what is refused, and what is written
 pub size-refused : (n i m : ℕ) (x : Step ℕ) → x ≡ refused m → Err (refusal m 2 0 i 0) ≡ sized n (placed i x)

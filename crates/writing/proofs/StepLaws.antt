@@ -1,22 +1,20 @@
 -- Steps one after another, and the rows that they take.
-use mathlib.Core.Path.{_≡_, refl, sym, ap, subst, _∙_}
+use mathlib.Core.Path.{_≡_, refl, sym, ap, _∙_}
 use mathlib.Core.Bool.{Bool, true, false, cond, _&&_}
 use mathlib.Core.List.{List, [], _∷_, _++_, append-assoc, append-nil}
-use Prim.Native.Nat.{ℕ, zero, suc, _+_, _-_, _*_, _^_, _≤_, _<_}
+use Prim.Native.Nat.{ℕ, zero, suc, _+_, _-_, _*_, _≤_, _<_}
 use native.Mathlib.Omega.{arith}
-use lib.Dec.{leb, eqb, ltb}
+use lib.Dec.{leb, eqb}
 use lib.ListN.{length, take, drop, getD, length-append}
 use Rattle.std.proofs.shelf.Tests.{and-parts, leb-true}
 use Rattle.std.proofs.shelf.Lists.{drop-more, drop-all, drop-drop, length-drop}
-use Rattle.basics.specs.declared.refusal.Refusal.{Refusal}
 use Rattle.basics.specs.Bytes.{all}
-use Rattle.basics.specs.Decimals.{digits}
 use Rattle.basics.specs.Texts.{trim}
 use Rattle.basics.proofs.DigitLaws.{length-digits}
 use Rattle.layouts.specs.Kinds.{Part, constant, figures, letters, code, Shape, one, block, count, line, width}
 use Rattle.values.specs.declared.row.ValueRow.{ValueRow}
 use Rattle.values.specs.Rows.{textAt, inside}
-use Rattle.values.specs.Writing.{padded, fitting, suits, written, Step, done, refused, before, chain, rowStep, partStep, lineSteps, firstNumber, fieldStep}
+use Rattle.values.specs.Writing.{padded, fitting, suits, written, Step, done, refused, before, chain, rowStep, lineSteps, firstNumber, fieldStep}
 use Rattle.values.proofs.Padding.{length-padded}
 use Rattle.values.proofs.PartLaws.{never}
 use Rattle.values.proofs.FieldLaws.{chained}

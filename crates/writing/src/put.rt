@@ -1,7 +1,7 @@
 // Writes rows that are known to suit.
 ghost use mathlib.Core.Path.{_≡_};
 ghost use mathlib.Core.Bool.{true};
-ghost use Prim.Native.Nat.{ℕ, _*_, _≤_, _<_};
+ghost use Prim.Native.Nat.{_*_, _≤_, _<_};
 ghost use lib.ListN.{length};
 ghost use Rattle.layouts.specs.Kinds.{block, recordName, width};
 ghost use Rattle.layouts.specs.Layouts.{layoutAt};

@@ -1,4 +1,4 @@
-use mathlib.Core.Path.{_≡_, sym}
+use mathlib.Core.Path.{sym}
 use Rattle.std.proofs.shelf.Equals.{matches-decides}
 use Rattle.comparing.proofs.Equal.{tells-bytes, tells-records, both-judged}
 use Rattle.comparing.proofs.records.same_record.Needs as need

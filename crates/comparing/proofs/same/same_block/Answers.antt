@@ -1,8 +1,8 @@
-use mathlib.Core.Path.{_≡_, sym, _∙_}
+use mathlib.Core.Path.{sym}
 use mathlib.Core.Bool.{true, false}
 use native.Mathlib.Omega.{arith}
 use lib.ListN.{getD}
-use Rattle.std.proofs.shelf.Lists.{take-rest, length-drop}
+use Rattle.std.proofs.shelf.Lists.{take-rest}
 use Rattle.values.specs.declared.row.ValueRow.{ValueRow}
 use Rattle.comparing.proofs.SameSteps.{number-some, texts-within, block-texts, first-number}
 use Rattle.comparing.proofs.same.same_block.Needs as need

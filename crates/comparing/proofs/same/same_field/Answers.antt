@@ -1,4 +1,4 @@
-use mathlib.Core.Path.{_≡_, sym, ap, _∙_}
+use mathlib.Core.Path.{sym, ap, _∙_}
 use Rattle.lines.specs.Rules.{numberTest, textTest}
 use Rattle.values.specs.Forms.{shapeOf}
 use Rattle.comparing.specs.Comparing.{sameField}

@@ -1,5 +1,4 @@
-use mathlib.Core.Path.{_≡_, sym}
-use native.Mathlib.Omega.{arith}
+use mathlib.Core.Path.{sym}
 use Rattle.std.proofs.shelf.Lists.{take-rest}
 use Rattle.comparing.proofs.SameSteps.{texts-differ, texts-more, texts-end}
 use Rattle.comparing.proofs.same.same_texts.Needs as need

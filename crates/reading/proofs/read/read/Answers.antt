@@ -1,10 +1,7 @@
-use mathlib.Core.Path.{_≡_, sym, ap, subst, _∙_}
-use lib.ListN.{length, take}
+use mathlib.Core.Path.{sym, subst}
+use lib.ListN.{take}
 use Rattle.std.specs.Vec.{made}
-use Rattle.std.specs.declared.result.Result.{Result}
-use Rattle.basics.specs.declared.refusal.Refusal.{Refusal}
 use Rattle.values.specs.Records.{ShowsRecord}
-use Rattle.reading.specs.declared.read.Reading.{Reading}
 use Rattle.reading.specs.Reading.{rowsAfter}
 use Rattle.reading.proofs.Outcomes.{rows-show-the-record}
 use Rattle.reading.proofs.read.read.Needs as need

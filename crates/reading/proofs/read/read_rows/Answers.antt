@@ -1,15 +1,14 @@
-use mathlib.Core.Path.{_≡_, refl, sym, ap, subst, _∙_}
-use Prim.Native.Nat.{_≤_, _<_}
+use mathlib.Core.Path.{_≡_, refl, sym, ap, _∙_}
+use Prim.Native.Nat.{_≤_}
 use native.Mathlib.Omega.{arith}
 use lib.ListN.{length}
-use Rattle.std.proofs.shelf.Results.{err-from-errBy}
-use Rattle.std.specs.declared.result.Result.the-variants.{Ok, Err}
+use Rattle.std.specs.declared.result.Result.the-variants.{Ok}
 use Rattle.layouts.specs.Layouts.{layoutAt, digitsOf}
 use Rattle.lines.specs.Judging.{recordAt}
 use Rattle.lines.proofs.Walks.{digits-first}
 use Rattle.values.specs.Rows.{rowsOf}
 use Rattle.reading.specs.Reading.{orZero}
-use Rattle.reading.proofs.Outcomes.{belongs-follows, same-reading, read-refused, read-short, read-done}
+use Rattle.reading.proofs.Outcomes.{belongs-follows, same-reading, read-done}
 use Rattle.reading.proofs.read.read_rows.Needs as need
 
 pub count-rows-needed-requires : need.count-rows-needed-requires

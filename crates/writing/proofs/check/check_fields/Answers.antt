@@ -1,14 +1,12 @@
-use mathlib.Core.Path.{_≡_, sym, ap, _∙_}
-use Prim.Native.Nat.{_+_, _-_, _*_, _≤_}
+use mathlib.Core.Path.{sym}
+use Prim.Native.Nat.{_-_}
 use native.Mathlib.Omega.{arith}
-use lib.ListN.{length}
 use Rattle.std.proofs.shelf.Lists.{take-rest}
 use Rattle.std.proofs.shelf.Results.{err-from-errBy}
 use Rattle.layouts.specs.Layouts.{layoutAt}
 use Rattle.layouts.proofs.Places.{place-within}
 use Rattle.layouts.proofs.Laws.{lawful-fields}
 use Rattle.values.specs.Forms.{shapeOf}
-use Rattle.values.specs.Writing.{fieldSteps}
 use Rattle.writing.proofs.SizeLaws.{fields-stop, fields-more, fields-end}
 use Rattle.writing.proofs.check.check_fields.Needs as need
 

@@ -1,10 +1,7 @@
-use mathlib.Core.Path.{_≡_, sym, _∙_}
 use native.Mathlib.Omega.{arith}
 use Rattle.std.proofs.shelf.Lists.{take-rest}
 use Rattle.std.proofs.shelf.Results.{err-from-errBy}
 use Rattle.lines.specs.Rules.{textTest}
-use Rattle.values.specs.Writing.{lineSteps}
-use Rattle.writing.proofs.StepLaws.{ahead-none}
 use Rattle.writing.proofs.SizeLaws.{lines-more, lines-stop, lines-end, lines-start}
 use Rattle.writing.proofs.check.check_lines.Needs as need
 

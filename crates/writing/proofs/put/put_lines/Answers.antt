@@ -1,10 +1,9 @@
-use mathlib.Core.Path.{_≡_, refl, sym, _∙_}
+use mathlib.Core.Path.{refl}
 use Prim.Native.Nat.{_+_, _-_, _*_}
 use native.Mathlib.Omega.{arith}
-use lib.ListN.{length, take, drop}
+use lib.ListN.{length, drop}
 use Rattle.std.proofs.shelf.Lists.{length-take, length-drop}
 use Rattle.lines.specs.Rules.{textTest}
-use Rattle.values.specs.declared.row.ValueRow.{ValueRow}
 use Rattle.writing.proofs.PutLaws.{line-row, lines-put, lines-all, lines-first}
 use Rattle.writing.proofs.put.put_lines.Needs as need
 

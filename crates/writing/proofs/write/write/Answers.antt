@@ -1,5 +1,5 @@
-use mathlib.Core.Path.{_≡_, sym, subst, _∙_}
-use lib.ListN.{length, take}
+use mathlib.Core.Path.{sym, subst, _∙_}
+use lib.ListN.{take}
 use Rattle.std.specs.Vec.{made}
 use Rattle.lines.specs.Belongs.{Belongs}
 use Rattle.values.specs.Records.{ShowsRecord}

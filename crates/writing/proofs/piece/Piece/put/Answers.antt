@@ -1,5 +1,4 @@
-use mathlib.Core.Path.{_≡_, ap, sym, _∙_}
-use native.Mathlib.Omega.{arith}
+use mathlib.Core.Path.{ap, sym, _∙_}
 use Rattle.layouts.specs.Kinds.{width}
 use Rattle.values.specs.Writing.{written}
 use Rattle.writing.specs.Pieces.{partOf}
