@@ -123,6 +123,29 @@ fn limits(rt: LibcRuntime, set: &mut LoadedSet) -> io::Result<()> {
     )
 }
 
+// Seven layouts, and then what is to be the eighth: its U stands at byte 57.
+fn tell_eighth(rt: LibcRuntime, set: &mut LoadedSet, what: &str, eighth: &[u8]) -> io::Result<()> {
+    let mut strips = Vec::new(rt.alloc());
+    strips.extend_from_slice(b"U10000PVU10001PVU10002PVU10003PVU10004PVU10005PVU10006PV")?;
+    strips.extend_from_slice(eighth)?;
+    tell(rt, set, what, &strips)
+}
+
+// Refusals at the first and at the last place that they can have.
+fn first_and_last_places(rt: LibcRuntime, set: &mut LoadedSet) -> io::Result<()> {
+    tell(rt, set, "an unknown kind behind the first U", b"U99900x")?;
+    tell_eighth(
+        rt,
+        set,
+        "an unknown kind behind the last field",
+        b"U10007PVx",
+    )?;
+    tell_eighth(rt, set, "the eighth U cut", b"U1000")?;
+    tell_eighth(rt, set, "no digit in the eighth U", b"U1000x")?;
+    tell_eighth(rt, set, "the eighth layout unlawful", b"U10007P")?;
+    tell_eighth(rt, set, "the eighth digits used before", b"U10006PV")
+}
+
 // A refused load leaves the set as it was.
 fn left_as_it_was(rt: LibcRuntime, set: &mut LoadedSet) -> io::Result<()> {
     tell(rt, set, "U99900PV", b"U99900PV")?;
@@ -171,6 +194,7 @@ fn main(rt: LibcRuntime) -> io::Result<()> {
     short_strips(rt, &mut set)?;
     bodies(rt, &mut set)?;
     limits(rt, &mut set)?;
+    first_and_last_places(rt, &mut set)?;
     left_as_it_was(rt, &mut set)?;
     random(rt, &mut set)?;
     match built_in_by_strips(rt.alloc()) {
