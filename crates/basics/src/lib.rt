@@ -1,5 +1,6 @@
 // What every layer stands on: refusals, rows over lent memory, bytes, numbers in digits, texts,
 // days, amounts and currencies.
+#![tactic(auto)]
 pub mod bytes;
 pub mod calendar;
 pub mod decimal;

@@ -1,2 +1,3 @@
 // Which layouts are lawful.
+#![tactic(auto)]
 pub mod layout;

@@ -1,4 +1,5 @@
 // Reading a line: its values, as rows.
+#![tactic(auto)]
 mod fields;
 pub mod money;
 mod parts;

@@ -1,4 +1,5 @@
 // Writing rows as a line.
+#![tactic(auto)]
 mod check;
 mod piece;
 mod put;
