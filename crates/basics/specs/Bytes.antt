@@ -1,5 +1,5 @@
 -- Classes of bytes, and the first byte that may not stand where it does.
-use Rattle.std.specs.Prelude.{ℕ, ◌+◌, Bool, true, false, cond, ◌&&◌, ◌||◌, List, [], ◌∷◌, Some, None, Option, ◌==◌, nat_le, slice_index}
+use Rattle.std.specs.Prelude.{ℕ, ◌+◌, Bool, true, cond, ◌&&◌, ◌||◌, List, [], ◌∷◌, Some, None, Option, ◌==◌, nat_le, slice_index}
 use Rattle.basics.specs.declared.bytes.ByteClass.{ByteClass}
 use Rattle.basics.specs.declared.bytes.ByteClass.TheVariants.{Digit, Capital, Text, Blank, Zero, OneOf}
 

@@ -1,6 +1,7 @@
 // What every layer stands on: refusals, rows over lent memory, bytes, numbers in digits, texts,
 // days, amounts and currencies.
 #![tactic(auto)]
+
 pub mod bytes;
 pub mod calendar;
 pub mod decimal;

@@ -1,4 +1,4 @@
-use Rattle.std.proofs.Common.{◌≡◌, ◌+◌, ◌-◌, ◌*◌, ◌≤◌, length, get_or, drop, Some, sym, ap, ◌∙◌, arith}
+use Rattle.std.proofs.Common.{◌+◌, ◌*◌, get_or, drop, Some, sym, ap, ◌∙◌, arith}
 use Rattle.basics.specs.declared.bytes.ByteClass.TheVariants.{Digit}
 use Rattle.basics.specs.Bytes.{allowed}
 use Rattle.basics.specs.Decimals.{number_from}
@@ -15,14 +15,14 @@ returns-then-not-allows c =
     let bad = all-bad (allowed Digit) s c.loop-b.b-index c.loop-b-test.true (sym c.if-not-allows.ensures) in
     sym (value-bad s c.if-part-gt19.false (sym c.loop-b.invariant.2 ∙ bad))
 
-pub overflow-mul-n : goal.overflow-mul-n
-overflow-mul-n c = omega (arith, fits c.loop-b.n c.loop-b.b-index 0 c.loop-b.invariant.1 (omega arith) (omega arith))
+pub overflow_mul-n : goal.overflow_mul-n
+overflow_mul-n c = omega (arith, fits c.loop-b.n c.loop-b.b-index 0 c.loop-b.invariant.1 (omega arith) (omega arith))
 
-pub overflow-sub-b : goal.overflow-sub-b
-overflow-sub-b c = (digit-is _ (sym c.if-not-allows.ensures)).0
+pub overflow_sub-b : goal.overflow_sub-b
+overflow_sub-b c = (digit-is _ (sym c.if-not-allows.ensures)).0
 
-pub overflow-add-n : goal.overflow-add-n
-overflow-add-n c =
+pub overflow_add-n : goal.overflow_add-n
+overflow_add-n c =
     let d = digit-is (get_or c.args.part.now c.loop-b.b-index 0) (sym c.if-not-allows.ensures) in
     omega (arith, fits c.loop-b.n c.loop-b.b-index c.from.result c.loop-b.invariant.1 (omega arith) (omega arith))
 

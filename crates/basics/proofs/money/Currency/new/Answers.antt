@@ -1,8 +1,7 @@
-use Rattle.std.proofs.Common.{◌≡◌, ℕ, Bool, true, false, not, ◌&&◌, eqb, List, [], ◌∷◌, length, get_or, is_some, sym, refl, ap, ◌∙◌, subst, arith}
+use Rattle.std.proofs.Common.{◌≡◌, ℕ, eqb, List, [], ◌∷◌, length, get_or, is_some, sym, refl, ap, ◌∙◌, arith}
 use Rattle.std.proofs.lemmas.Bool.{and_from, and_right, eq-eqb, not-true, not-false}
 use Rattle.basics.specs.declared.bytes.ByteClass.TheVariants.{Capital}
 use Rattle.basics.specs.Bytes.{allowed, all}
-use Rattle.basics.specs.Money.{is_currency}
 use Rattle.basics.proofs.ByteLaws.{forbidden-test}
 use Rattle.basics.proofs.money.Currency.new.Goals as goal
 
@@ -13,23 +12,23 @@ three (a ∷ b ∷ []) h = absurd (omega arith)
 three (a ∷ b ∷ d ∷ []) h = refl
 three (a ∷ b ∷ d ∷ e ∷ s) h = absurd (omega arith)
 
-pub returns-then-is-some : goal.returns-then-is-some
-returns-then-is-some c =
+pub returns-then-is_some : goal.returns-then-is_some
+returns-then-is_some c =
     let s = c.args.bytes.now in
     let t = forbidden-test (allowed Capital) 0 s in
-    and_right (eqb (length s) 3) (all (allowed Capital) s) (not-true (all (allowed Capital) s) (sym t ∙ ap (λ o. is_some o) (sym c.first-forbidden.ensures) ∙ sym c.if-is-some.ensures))
+    and_right (eqb (length s) 3) (all (allowed Capital) s) (not-true (all (allowed Capital) s) (sym t ∙ ap (λ o. is_some o) (sym c.first_forbidden.ensures) ∙ sym c.if-is_some.ensures))
 
-pub invariant-of-result : goal.invariant-of-result
-invariant-of-result c =
+pub invariant_of-result : goal.invariant_of-result
+invariant_of-result c =
     let s = c.args.bytes.now in
     let t = forbidden-test (allowed Capital) 0 s in
-    let all' = not-false (all (allowed Capital) s) (sym t ∙ ap (λ o. is_some o) (sym c.first-forbidden.ensures) ∙ sym c.if-is-some.ensures) in
-    (ap (all (allowed Capital)) (three s (omega arith)) ∙ all', tt)
+    let all' = not-false (all (allowed Capital) s) (sym t ∙ ap (λ o. is_some o) (sym c.first_forbidden.ensures) ∙ sym c.if-is_some.ensures) in
+    record { capitals = ap (all (allowed Capital)) (three s (omega arith)) ∙ all' }
 
 pub returns : goal.returns
 returns c =
     let s = c.args.bytes.now in
     let h : length s ≡ 3 = omega arith in
     let t = forbidden-test (allowed Capital) 0 s in
-    let all' = not-false (all (allowed Capital) s) (sym t ∙ ap (λ o. is_some o) (sym c.first-forbidden.ensures) ∙ sym c.if-is-some.ensures) in
+    let all' = not-false (all (allowed Capital) s) (sym t ∙ ap (λ o. is_some o) (sym c.first_forbidden.ensures) ∙ sym c.if-is_some.ensures) in
     (and_from (eqb (length s) 3) (all (allowed Capital) s) (eq-eqb (length s) 3 h) all', three s h)
