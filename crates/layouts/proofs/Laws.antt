@@ -1,8 +1,8 @@
 -- What the law of a layout set says of its layouts.
-use Rattle.std.proofs.Common.{◌≡◌, ℕ, zero, suc, ◌+◌, ◌-◌, ◌<◌, ◌≤◌, Bool, true, false, not, ◌&&◌, eqb, ltb, leb, List, [], ◌∷◌, length, Some, None, Option, sym, refl, ap, ◌∙◌, arith}
+use Rattle.std.proofs.Common.{◌≡◌, ℕ, zero, suc, ◌≤◌, true, ◌&&◌, eqb, leb, List, [], ◌∷◌, length, arith}
 use Rattle.std.proofs.lemmas.Bool.{and_parts, leb-true}
 use Rattle.layouts.specs.declared.field.Field.{Field}
-use Rattle.layouts.specs.Layouts.{place, layout_at, letter, figured, later, times, full_width, lawful_layout, digits_of, none_named, lawful_layouts, is_lawful}
+use Rattle.layouts.specs.Layouts.{layout_at, letter, figured, later, times, full_width, lawful_layout, digits_of, none_named, lawful_layouts, is_lawful}
 
 -- the parts of a layout's law
 pub record Layout (f : Field) (fs : List Field) : Type 0 where

@@ -1,6 +1,6 @@
 -- The kinds of fields, one line a kind: how a field stands in a line. Judging, values and writing
 -- all go by this table.
-use Rattle.std.specs.Prelude.{ℕ, ◌+◌, ◌*◌, Bool, true, false, not, ◌&&◌, ◌||◌, List, [], ◌∷◌, ◌++◌, length, replicate, ◌==◌}
+use Rattle.std.specs.Prelude.{ℕ, ◌+◌, ◌*◌, Bool, true, not, ◌||◌, List, ◌∷◌, length, replicate, ◌==◌}
 use Rattle.basics.specs.declared.bytes.ByteClass.TheVariants as class
 use Rattle.basics.specs.Bytes.{between, allowed, all, anywhere, these}
 use Rattle.basics.specs.Decimals.{number_of, digits}

@@ -1,6 +1,6 @@
 -- What a layout set means: a list of layouts, each a list of fields; and which of them are lawful.
 -- Places count from 1.
-use Rattle.std.specs.Prelude.{◌≡◌, ℕ, zero, suc, ◌+◌, ◌≤◌, Bool, true, false, cond, not, ◌&&◌, ◌||◌, List, [], ◌∷◌, length, Some, None, Option, ◌==◌, nat_le, nat_lt}
+use Rattle.std.specs.Prelude.{ℕ, zero, suc, ◌+◌, Bool, true, false, cond, not, ◌&&◌, List, [], ◌∷◌, length, Some, None, Option, ◌==◌, nat_le, nat_lt}
 use Rattle.basics.specs.declared.bytes.ByteClass.TheVariants as class
 use Rattle.basics.specs.Bytes.{between, allowed}
 use Rattle.layouts.specs.declared.field.Field.{Field}

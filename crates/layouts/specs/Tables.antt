@@ -1,5 +1,5 @@
 -- The built-in set: a payment, an advice with its texts, an advice without texts, a foreign cheque.
-use Rattle.std.specs.Prelude.{ℕ, List, [], ◌∷◌}
+use Rattle.std.specs.Prelude.{List, [], ◌∷◌}
 use Rattle.layouts.specs.declared.field.Field.{Field}
 use Rattle.layouts.specs.declared.field.Field.TheVariants.{Record, Range, Number, Zeros, Text, FilledText, Blanks, Day, DayOrZero, Amount, Currency, OneOf, Lines, AllOrNoLines}
 

@@ -1,5 +1,6 @@
 // Fields, layouts and layout sets.
 #![tactic(auto)]
+
 pub mod built_in;
 pub mod field;
 pub mod set;
