@@ -17,7 +17,7 @@ pub(crate) fn same_fields<S: LayoutSet>(
     other_rows: &[ValueRow],
     other_bytes: &[u8],
 ) -> bool
-    ensures { result ≡ same_rows (layout_at (meaning set.now) j) bytes.now rows.now other_bytes.now other_rows.now }
+    ensures { result ≡ same_rows (layout_at (S.meaning set.now) j) bytes.now rows.now other_bytes.now other_rows.now }
 {
     let mut used = 0;
     let mut i = 1;

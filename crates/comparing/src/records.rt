@@ -12,8 +12,8 @@ use lines::judge::judge;
 // comes first. Records are equal if the digits of their layouts and their values are, and the
 // lines are then the same, so their bytes are compared.
 pub fn same_record<S: LayoutSet>(set: &S, line: &[u8], other: &[u8]) -> Result<bool, Refusal>
-    ensures answer { result ≡ and_then (judged (meaning set.now) line.now) (λ _. and_then (judged (meaning set.now) other.now) (λ _. Ok (bytes_eq line.now other.now))) }
-    ensures equal_digits_and_values { IfOk result (λ b. Decides b (SameRecord (meaning set.now) line.now other.now)) }
+    ensures answer { result ≡ and_then (judged (S.meaning set.now) line.now) (λ _. and_then (judged (S.meaning set.now) other.now) (λ _. Ok (bytes_eq line.now other.now))) }
+    ensures equal_digits_and_values { IfOk result (λ b. Decides b (SameRecord (S.meaning set.now) line.now other.now)) }
     ensures equal_values_mean_equal_lines { IfOk result (λ b. Decides b (line.now ≡ other.now)) }
 {
     judge(set, line)?;

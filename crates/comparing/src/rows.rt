@@ -29,7 +29,7 @@ fn compare<S: LayoutSet>(
     other_rows: &[ValueRow],
     other_bytes: &[u8],
 ) -> Result<bool, Refusal>
-    ensures { result ≡ same_for (meaning set.now) digits bytes.now rows.now other_bytes.now other_rows.now }
+    ensures { result ≡ same_for (S.meaning set.now) digits bytes.now rows.now other_bytes.now other_rows.now }
 {
     let Some(j) = find(set, u64::from(digits)) else {
         return Err(UNKNOWN_DIGITS);
@@ -47,9 +47,9 @@ pub fn same_values<S: LayoutSet>(
     other_rows: &[ValueRow],
     other_bytes: &[u8],
 ) -> Result<bool, Refusal>
-    ensures answer { result ≡ same_for (meaning set.now) digits bytes.now rows.now other_bytes.now other_rows.now }
-    ensures equal_numbers_and_texts { IfOk result (λ b. (j : ℕ) (l : List Field) → place (meaning set.now) j ≡ Some l → digits_of l ≡ Some digits → Decides b (SameValues l bytes.now rows.now other_bytes.now other_rows.now)) }
-    ensures equal_values_mean_equal_lines { IfOk result (λ b. (s t : List ℕ) → ShowsRecord (meaning set.now) digits bytes.now rows.now s → ShowsRecord (meaning set.now) digits other_bytes.now other_rows.now t → Decides b (s ≡ t)) }
+    ensures answer { result ≡ same_for (S.meaning set.now) digits bytes.now rows.now other_bytes.now other_rows.now }
+    ensures equal_numbers_and_texts { IfOk result (λ b. (j : ℕ) (l : List Field) → place (S.meaning set.now) j ≡ Some l → digits_of l ≡ Some digits → Decides b (SameValues l bytes.now rows.now other_bytes.now other_rows.now)) }
+    ensures equal_values_mean_equal_lines { IfOk result (λ b. (s t : List ℕ) → ShowsRecord (S.meaning set.now) digits bytes.now rows.now s → ShowsRecord (S.meaning set.now) digits other_bytes.now other_rows.now t → Decides b (s ≡ t)) }
 {
     compare(set, digits, rows, bytes, other_rows, other_bytes)
 }

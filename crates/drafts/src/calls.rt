@@ -17,7 +17,7 @@ use lines::judge::judge;
 
 // How many lines a delivery has, or its first fault.
 fn delivered_lines<S: LayoutSet>(set: &S, delivery: &[u8]) -> Result<usize, Refusal>
-    ensures { result ≡ delivered (meaning set.now) delivery.now }
+    ensures { result ≡ delivered (S.meaning set.now) delivery.now }
 {
     if delivery.len() == 0 {
         return Err(EMPTY_DELIVERY);
@@ -35,7 +35,7 @@ impl Draft {
         kept: &mut [u8],
         delivery: &[u8],
     ) -> Result<(), Refusal>
-        ensures { Meets (importing (meaning set.now) delivery.now) self.old file.old rows.old kept.old self.new file.new rows.new kept.new result }
+        ensures { Meets (importing (S.meaning set.now) delivery.now) self.old file.old rows.old kept.old self.new file.new rows.new kept.new result }
     {
         self.fits(file, rows, kept)?;
         let more = delivered_lines(set, delivery)?;
@@ -55,7 +55,7 @@ impl Draft {
         kept: &mut [u8],
         line: &[u8],
     ) -> Result<(), Refusal>
-        ensures { Meets (adding (meaning set.now) line.now) self.old file.old rows.old kept.old self.new file.new rows.new kept.new result }
+        ensures { Meets (adding (S.meaning set.now) line.now) self.old file.old rows.old kept.old self.new file.new rows.new kept.new result }
     {
         self.fits(file, rows, kept)?;
         judge(set, line)?;
@@ -77,7 +77,7 @@ impl Draft {
         n: usize,
         line: &[u8],
     ) -> Result<(), Refusal>
-        ensures { Meets (replacing (meaning set.now) n line.now) self.old file.old rows.old kept.old self.new file.new rows.new kept.new result }
+        ensures { Meets (replacing (S.meaning set.now) n line.now) self.old file.old rows.old kept.old self.new file.new rows.new kept.new result }
     {
         self.fits(file, rows, kept)?;
         let Some(place) = place_of(&file[0..self.file], n) else {

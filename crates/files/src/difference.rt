@@ -30,7 +30,7 @@ pub fn difference<S: LayoutSet>(
     second: &[u8],
     currency: &[u8],
 ) -> Result<i64, FileFault>
-    ensures { result ≡ difference_of (meaning set.now) first.now second.now currency.now }
+    ensures { result ≡ difference_of (S.meaning set.now) first.now second.now currency.now }
 {
     let Some(currency) = Currency::new(currency) else {
         return Err(FileFault {

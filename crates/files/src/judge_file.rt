@@ -42,7 +42,7 @@ pub(crate) fn whole_lines(bytes: &[u8]) -> Result<usize, Refusal>
 
 // The layout of line n, or its first fault as a fault of line n.
 pub(crate) fn judge_line<S: LayoutSet>(set: &S, line: &[u8], n: usize) -> Result<usize, Refusal>
-    ensures { result ≡ at_line n (judged (meaning set.now) line.now) }
+    ensures { result ≡ at_line n (judged (S.meaning set.now) line.now) }
 {
     match judge(set, line) {
         Ok(j) => Ok(j),
@@ -52,7 +52,7 @@ pub(crate) fn judge_line<S: LayoutSet>(set: &S, line: &[u8], n: usize) -> Result
 
 // The number of records, or the first fault, by the definition that computes it.
 fn judge_lines<S: LayoutSet>(set: &S, bytes: &[u8]) -> Result<usize, Refusal>
-    ensures { result ≡ file_judged (meaning set.now) bytes.now }
+    ensures { result ≡ file_judged (S.meaning set.now) bytes.now }
 {
     let count = whole_lines(bytes)?;
     let mut n = 1;
@@ -68,11 +68,11 @@ fn judge_lines<S: LayoutSet>(set: &S, bytes: &[u8]) -> Result<usize, Refusal>
 
 // The number of records of the file, or its first fault.
 pub fn judge_file<S: LayoutSet>(set: &S, bytes: &[u8]) -> Result<usize, Refusal>
-    ensures answer_is_the_first_fault { result ≡ file_judged (meaning set.now) bytes.now }
-    ensures accepted_only_if_it_is_records_with_line_ends { (n : ℕ) → result ≡ Ok n → (records : List (List ℕ)) × (FileOf (meaning set.now) bytes.now records × (length records ≡ n)) }
-    ensures accepted_if_it_is_records_with_line_ends { (records : List (List ℕ)) → FileOf (meaning set.now) bytes.now records → result ≡ Ok (length records) }
-    ensures no_other_records_have_this_writing { (records others : List (List ℕ)) → FileOf (meaning set.now) bytes.now records → FileOf (meaning set.now) bytes.now others → records ≡ others }
-    ensures refused_exactly_as_the_rules_say { (e : Refusal) → (result ≡ Err e → FileRefused (meaning set.now) bytes.now e) × (FileRefused (meaning set.now) bytes.now e → result ≡ Err e) }
+    ensures answer_is_the_first_fault { result ≡ file_judged (S.meaning set.now) bytes.now }
+    ensures accepted_only_if_it_is_records_with_line_ends { (n : ℕ) → result ≡ Ok n → (records : List (List ℕ)) × (FileOf (S.meaning set.now) bytes.now records × (length records ≡ n)) }
+    ensures accepted_if_it_is_records_with_line_ends { (records : List (List ℕ)) → FileOf (S.meaning set.now) bytes.now records → result ≡ Ok (length records) }
+    ensures no_other_records_have_this_writing { (records others : List (List ℕ)) → FileOf (S.meaning set.now) bytes.now records → FileOf (S.meaning set.now) bytes.now others → records ≡ others }
+    ensures refused_exactly_as_the_rules_say { (e : Refusal) → (result ≡ Err e → FileRefused (S.meaning set.now) bytes.now e) × (FileRefused (S.meaning set.now) bytes.now e → result ≡ Err e) }
 {
     judge_lines(set, bytes)
 }

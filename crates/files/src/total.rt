@@ -36,7 +36,7 @@ fn same_currency(one: Currency, other: Currency) -> bool
 
 // What line n pays in the currency, or its first fault as a fault of line n.
 fn paid_in<S: LayoutSet>(set: &S, line: &[u8], n: usize, currency: Currency) -> Result<u64, Refusal>
-    ensures paid { result ≡ at_line n (paid_by (meaning set.now) currency.letters line.now (judged (meaning set.now) line.now)) }
+    ensures paid { result ≡ at_line n (paid_by (S.meaning set.now) currency.letters line.now (judged (S.meaning set.now) line.now)) }
     ensures few { IfOk result (λ a. a ≤ 999999999999999) }
 {
     match read_money(set, line) {
@@ -59,7 +59,7 @@ pub(crate) fn sum_lines<S: LayoutSet>(
     bytes: &[u8],
     currency: Currency,
 ) -> Result<u64, Refusal>
-    ensures sum { result ≡ summed (meaning set.now) bytes.now currency.letters }
+    ensures sum { result ≡ summed (S.meaning set.now) bytes.now currency.letters }
     ensures few { IfOk result (λ s. s ≤ 1199999999999998800) }
 {
     whole_lines(bytes)?;
@@ -79,7 +79,7 @@ pub(crate) fn sum_lines<S: LayoutSet>(
 // The sum of the amounts of the file's lines in the currency. The currency is looked at before the
 // file, and the file's faults come before the sum.
 pub fn total<S: LayoutSet>(set: &S, bytes: &[u8], currency: &[u8]) -> Result<u64, Refusal>
-    ensures { result ≡ total_of (meaning set.now) bytes.now currency.now }
+    ensures { result ≡ total_of (S.meaning set.now) bytes.now currency.now }
 {
     match Currency::new(currency) {
         Some(currency) => sum_lines(set, bytes, currency),

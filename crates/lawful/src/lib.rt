@@ -1,3 +1,4 @@
 // Which layouts are lawful.
 #![tactic(auto)]
+
 pub mod layout;

@@ -1,12 +1,12 @@
 -- A lawful writing of a field passes.
-use Rattle.std.proofs.Common.{◌≡◌, ℕ, zero, suc, ◌+◌, ◌-◌, ◌*◌, ◌/◌, ◌%◌, ◌<◌, ◌≤◌, Bool, true, false, cond, ltb, List, [], ◌∷◌, ◌++◌, length, get_or, take, drop, Some, None, Ok, Err, Result, sym, refl, ap, ◌∙◌, subst, append_assoc, add-zero, div-add-mod', arith, length-append, length-drop, take-append-drop}
+use Rattle.std.proofs.Common.{◌≡◌, ℕ, zero, suc, ◌+◌, ◌-◌, ◌*◌, ◌/◌, ◌%◌, ◌<◌, ◌≤◌, Bool, true, cond, List, ◌++◌, length, get_or, take, drop, Ok, Err, Result, sym, ap, ◌∙◌, subst, append_assoc, add-zero, div-add-mod', arith, length-append, length-drop, take-append-drop}
 use Rattle.std.proofs.lemmas.Nat.{div_below, mod_below}
-use Rattle.std.proofs.lemmas.List.{drop-drop, take_at, drop_at, take-take, take-append-le, get_or-take, get_or-drop}
+use Rattle.std.proofs.lemmas.List.{drop-drop, take_at, drop_at, take-append-le, get_or-take, get_or-drop}
 use Rattle.std.proofs.lemmas.Bool.{le-ltb}
 use Rattle.basics.specs.declared.bytes.ByteClass.TheVariants as class
 use Rattle.basics.specs.declared.refusal.Refusal.{Refusal}
 use Rattle.basics.specs.Refusals.{refusal}
-use Rattle.basics.specs.Bytes.{allowed, anywhere, first_forbidden}
+use Rattle.basics.specs.Bytes.{allowed, anywhere}
 use Rattle.basics.specs.Decimals.{number_of}
 use Rattle.basics.proofs.ByteLaws.{none-of-clean}
 use Rattle.layouts.specs.Kinds.{Part, Shape, one, block, count, line, width, allows, passes, refused_by}

@@ -1,6 +1,6 @@
 -- The fault of a field is the first row that holds of it, and such a row is the fault.
-use Rattle.std.proofs.Common.{◌≡◌, ℕ, zero, suc, ◌+◌, ◌-◌, ◌*◌, ◌<◌, ◌≤◌, Bool, true, false, cond, ltb, ◌⊎◌, List, [], ◌∷◌, ◌++◌, length, get_or, take, drop, Some, None, Ok, Err, Option, Result, sym, refl, ap, ◌∙◌, subst, inl, inr, ⊎_elim, arith, length-drop, take-append-drop}
-use Rattle.std.proofs.lemmas.List.{drop-drop, take-take, drop-take, get_or-take, get_or-drop, length-take-le}
+use Rattle.std.proofs.Common.{◌≡◌, ℕ, zero, suc, ◌+◌, ◌-◌, ◌*◌, ◌<◌, ◌≤◌, Bool, true, false, cond, ltb, ◌⊎◌, List, ◌++◌, length, get_or, take, drop, Some, None, Ok, Err, Result, sym, refl, ap, ◌∙◌, subst, inl, inr, ⊎_elim, arith, take-append-drop}
+use Rattle.std.proofs.lemmas.List.{drop-drop, take-take, drop-take, get_or-take, get_or-drop}
 use Rattle.std.proofs.lemmas.Bool.{ltb-true, ltb-false, lt-ltb, le-ltb}
 use Rattle.basics.specs.declared.bytes.ByteClass.TheVariants as class
 use Rattle.basics.specs.declared.refusal.Refusal.{Refusal}
@@ -10,8 +10,7 @@ use Rattle.basics.specs.Decimals.{number_of}
 use Rattle.basics.proofs.ByteLaws.{clean-of-none, none-of-clean, first-of-some, some-of-first}
 use Rattle.layouts.specs.Kinds.{Part, Shape, one, block, count, width, allows, passes, refused_by}
 use Rattle.lines.specs.Judging.{and_then, unforbidden, cleaned, part_in, cut, part_end, each_line, lines_in, lines_end, field_end}
-use Rattle.lines.specs.Belongs.{Fit}
-use Rattle.lines.specs.Refuses.{Short, Foreign, Sound, Wrong, PartRefused, WrongLine, LinesRefused, LinesAfter, FieldRefused}
+use Rattle.lines.specs.Refuses.{Short, Foreign, Sound, Wrong, PartRefused, LinesRefused, FieldRefused}
 use Rattle.lines.proofs.Steps.{same-err}
 use Rattle.lines.proofs.Sound.{part-wide, part-passed}
 use Rattle.lines.proofs.Complete.{room, part-passes}

@@ -1,16 +1,16 @@
 -- The judgement of a line: it is refused exactly as the rows of the refusals say.
-use Rattle.std.proofs.Common.{◌≡◌, ℕ, zero, suc, ◌+◌, ◌-◌, ◌<◌, ◌≤◌, Bool, true, false, cond, ltb, ◌⊎◌, List, [], ◌∷◌, ◌++◌, length, take, drop, Some, None, Ok, Err, Option, Result, sym, refl, ap, ◌∙◌, subst, inl, inr, ⊎_elim, append_assoc, arith, length-append, length-drop, take-append-drop}
+use Rattle.std.proofs.Common.{◌≡◌, ℕ, suc, ◌+◌, ◌-◌, ◌<◌, ◌≤◌, true, false, cond, ltb, ◌⊎◌, List, [], ◌∷◌, ◌++◌, length, take, drop, Some, None, Ok, Err, Option, sym, refl, ap, ◌∙◌, subst, inl, inr, append_assoc, arith, length-append, length-drop, take-append-drop}
 use Rattle.std.proofs.lemmas.List.{drop-drop, drop_at}
 use Rattle.std.proofs.lemmas.Bool.{ltb-true, ltb-false, lt-ltb, le-ltb}
 use Rattle.basics.specs.declared.refusal.Refusal.{Refusal}
 use Rattle.basics.specs.Refusals.{refusal}
 use Rattle.layouts.specs.declared.field.Field.{Field}
 use Rattle.layouts.specs.Kinds.{shape}
-use Rattle.layouts.specs.Layouts.{place, layout_at, or_empty, is_lawful}
+use Rattle.layouts.specs.Layouts.{layout_at, or_empty, is_lawful}
 use Rattle.layouts.proofs.Laws.{lawful-layouts}
 use Rattle.lines.specs.Judging.{and_then, field_end, walked, named, chosen, judged}
-use Rattle.lines.specs.Belongs.{Writes, Parts, joining}
-use Rattle.lines.specs.Refuses.{FieldRefused, FaultIn, LeftOver, TooShort, Unknown, FaultOf, Refuses}
+use Rattle.lines.specs.Belongs.{Parts, joining}
+use Rattle.lines.specs.Refuses.{FieldRefused, FaultIn, LeftOver, Refuses}
 use Rattle.lines.proofs.Steps.{same-err}
 use Rattle.lines.proofs.Sound.{ended, part-wide}
 use Rattle.lines.proofs.Complete.{room, passes-field}

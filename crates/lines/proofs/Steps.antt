@@ -1,5 +1,5 @@
 -- Single steps of the judging definitions, as the code takes them.
-use Rattle.std.proofs.Common.{◌≡◌, ℕ, zero, suc, ◌+◌, ◌-◌, ◌*◌, ◌^◌, ◌<◌, ◌≤◌, Bool, true, false, cond, eqb, ltb, List, [], ◌∷◌, length, get_or, take, drop, replicate, Some, None, Ok, Err, Option, Result, unwrap_or, sym, refl, ap, ◌∙◌, subst, zero-add, arith}
+use Rattle.std.proofs.Common.{◌≡◌, ℕ, zero, suc, ◌+◌, ◌-◌, ◌*◌, ◌<◌, ◌≤◌, Bool, true, false, cond, eqb, ltb, List, [], ◌∷◌, length, get_or, take, drop, replicate, Some, None, Ok, Err, Option, Result, unwrap_or, sym, refl, ap, ◌∙◌, zero-add, arith}
 use Rattle.std.proofs.lemmas.List.{drop-drop, get_or-replicate, length-replicate}
 use Rattle.std.proofs.lemmas.Bool.{le-ltb}
 use Rattle.basics.specs.declared.bytes.ByteClass.TheVariants as class
@@ -9,7 +9,7 @@ use Rattle.basics.specs.Bytes.{allowed, anywhere, these, first_forbidden}
 use Rattle.basics.specs.Decimals.{number_of, value_of}
 use Rattle.basics.proofs.ByteLaws.{same-forbidden, none-all}
 use Rattle.basics.proofs.DigitLaws.{value-some}
-use Rattle.layouts.specs.Kinds.{Part, constant, figures, letters, any_text, count, block}
+use Rattle.layouts.specs.Kinds.{constant, figures, letters, any_text, count, block}
 use Rattle.lines.specs.Judging.{and_then, unforbidden, cleaned, part_in, part_end, numbered, cut, each_line, lines_end, field_end}
 
 pub absurd-err : {A B : Type 0} {x : A} {e : Refusal} → ◌≡◌ {A = Result A Refusal} (Err e) (Ok x) → B

@@ -1,5 +1,5 @@
 -- A line that belongs to a lawful set has text bytes alone: no CR and no LF.
-use Rattle.std.proofs.Common.{◌≡◌, ℕ, zero, suc, ◌+◌, ◌-◌, ◌*◌, ◌<◌, ◌≤◌, Bool, true, false, not, ◌&&◌, ◌||◌, eqb, leb, ◌⊎◌, List, [], ◌∷◌, ◌++◌, length, get_or, take, drop, replicate, Some, sym, refl, ap, ◌∙◌, subst, inl, inr, ⊎_elim, arith, length-drop, take-append-drop}
+use Rattle.std.proofs.Common.{◌≡◌, ℕ, ◌*◌, ◌<◌, ◌≤◌, Bool, true, not, ◌&&◌, ◌||◌, eqb, leb, List, [], ◌∷◌, ◌++◌, get_or, take, drop, replicate, sym, refl, ap, ◌∙◌, subst, ⊎_elim, arith, length-drop, take-append-drop}
 use borrow.Author.Tests.{clash}
 use Rattle.std.proofs.lemmas.List.{drop-drop, get_or-replicate, length-replicate}
 use Rattle.std.proofs.lemmas.Bool.{and_parts, and_from, leb-true, le-leb, or_left, or_cases, eqb-true}
@@ -10,8 +10,8 @@ use Rattle.basics.proofs.ByteLaws.{all-at, at_all}
 use Rattle.basics.proofs.DigitLaws.{digit-is, digits_are}
 use Rattle.layouts.specs.declared.field.Field.{Field}
 use Rattle.layouts.specs.declared.field.Field.TheVariants.{Record, Range, Number, Zeros, Text, FilledText, Blanks, Day, DayOrZero, Amount, Currency, OneOf, Lines, AllOrNoLines}
-use Rattle.layouts.specs.Kinds.{Part, constant, figures, letters, code, count, line, record_name, width, allows}
-use Rattle.layouts.specs.Layouts.{place, letter, figured, later, lawful_layout, is_lawful}
+use Rattle.layouts.specs.Kinds.{Part, constant, figures, line, record_name, width, allows}
+use Rattle.layouts.specs.Layouts.{letter, figured, later, lawful_layout, is_lawful}
 use Rattle.layouts.proofs.Laws.{layout-law, lawful-layouts}
 use Rattle.lines.specs.Belongs.{Fit, Block, Writes, Parts, joining, BelongsAs}
 use Rattle.lines.proofs.Complete.{text_at_lem}

@@ -1,11 +1,11 @@
 -- One turn of the walk over the fields, and of the look for the layout.
-use Rattle.std.proofs.Common.{◌≡◌, ℕ, zero, suc, ◌+◌, ◌-◌, ◌*◌, ◌<◌, ◌≤◌, Bool, true, false, cond, ltb, List, [], ◌∷◌, length, get_or, drop, Some, None, Ok, Err, Option, Result, sym, refl, ap, ◌∙◌, subst, add-one, arith}
+use Rattle.std.proofs.Common.{◌≡◌, ℕ, ◌+◌, ◌-◌, ◌<◌, ◌≤◌, Bool, cond, ltb, List, [], ◌∷◌, length, get_or, drop, Some, None, Ok, Err, sym, refl, ap, ◌∙◌, add-one, arith}
 use Rattle.std.proofs.lemmas.List.{drop_more, drop_all}
 use Rattle.basics.specs.declared.refusal.Refusal.{Refusal}
 use Rattle.basics.specs.Refusals.{refusal}
 use Rattle.layouts.specs.declared.field.Field.{Field}
 use Rattle.layouts.specs.Kinds.{shape}
-use Rattle.layouts.specs.Layouts.{place, layout_at, or_empty, field_at, digits_of, same_number}
+use Rattle.layouts.specs.Layouts.{place, or_empty, field_at, digits_of, same_number}
 use Rattle.layouts.proofs.Places.{drop-at-place, drop-at-none, place_at}
 use Rattle.lines.specs.Judging.{and_then, field_end, walked, record_at, found}
 

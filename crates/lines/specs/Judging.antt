@@ -1,12 +1,12 @@
 -- The first fault of a line, computed: part by part, field by field, in the order of the refusals.
-use Rattle.std.specs.Prelude.{ℕ, zero, suc, ◌+◌, ◌-◌, ◌*◌, Bool, true, false, cond, List, [], ◌∷◌, length, take, drop, Some, None, Ok, Err, Option, Result, nat_lt}
+use Rattle.std.specs.Prelude.{ℕ, zero, suc, ◌+◌, ◌-◌, ◌*◌, Bool, cond, List, [], ◌∷◌, length, take, drop, Some, None, Ok, Err, Option, Result, nat_lt}
 use Rattle.basics.specs.declared.bytes.ByteClass.TheVariants as class
 use Rattle.basics.specs.declared.refusal.Refusal.{Refusal}
 use Rattle.basics.specs.Refusals.{refusal}
 use Rattle.basics.specs.Bytes.{allowed, anywhere, first_forbidden}
 use Rattle.basics.specs.Decimals.{number_of, value_of}
 use Rattle.layouts.specs.declared.field.Field.{Field}
-use Rattle.layouts.specs.Kinds.{Part, figures, Shape, one, block, shape, count, width, allows, passes, refused_by}
+use Rattle.layouts.specs.Kinds.{Part, Shape, one, block, shape, count, width, allows, passes, refused_by}
 use Rattle.layouts.specs.Layouts.{layout_at, digits_of, record_of, same_number}
 
 abbrev pub and_then : {A B : Type 0} → Result A Refusal → (A → Result B Refusal) → Result B Refusal

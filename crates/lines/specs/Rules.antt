@@ -1,5 +1,5 @@
 -- The rules of the code as the table of kinds has them.
-use Rattle.std.specs.Prelude.{ℕ, Bool, true, List}
+use Rattle.std.specs.Prelude.{ℕ, Bool, List}
 use Rattle.basics.specs.Bytes.{between}
 use Rattle.basics.specs.Days.{is_day}
 use Rattle.basics.specs.Money.{is_amount}

@@ -25,7 +25,7 @@ fn has_digits(first: Option<Field>, digits: u64) -> bool
 
 // The number of the layout that has these digits.
 pub fn find<S: LayoutSet>(set: &S, digits: u64) -> Option<usize>
-    ensures { result ≡ found (meaning set.now) 1 digits }
+    ensures { result ≡ found (S.meaning set.now) 1 digits }
 {
     for j in 1..=set.layouts() {
         if has_digits(set.field(j, 1), digits) {
@@ -37,7 +37,7 @@ pub fn find<S: LayoutSet>(set: &S, digits: u64) -> Option<usize>
 
 // The line against the fields of layout j, in their order.
 fn walk<S: LayoutSet>(set: &S, j: usize, line: &[u8]) -> Result<usize, Refusal>
-    ensures { result ≡ walked line.now j (layout_at (meaning set.now) j) 1 0 }
+    ensures { result ≡ walked line.now j (layout_at (S.meaning set.now) j) 1 0 }
 {
     let mut i = 1;
     let mut place = 0;
@@ -53,7 +53,7 @@ fn walk<S: LayoutSet>(set: &S, j: usize, line: &[u8]) -> Result<usize, Refusal>
 
 // The layout's number or the first fault, by the definition that computes it.
 fn judge_fields<S: LayoutSet>(set: &S, line: &[u8]) -> Result<usize, Refusal>
-    ensures { result ≡ judged (meaning set.now) line.now }
+    ensures { result ≡ judged (S.meaning set.now) line.now }
 {
     if line.len() < 8 {
         return Err(fault(Reason::LineEndsEarly, 1, line.len() + 1));
@@ -70,9 +70,9 @@ fn judge_fields<S: LayoutSet>(set: &S, line: &[u8]) -> Result<usize, Refusal>
 // The number of the layout that the line belongs to, or the line's first fault. Only the set's two
 // questions are asked.
 pub fn judge<S: LayoutSet>(set: &S, line: &[u8]) -> Result<usize, Refusal>
-    ensures answer_is_the_first_fault { result ≡ judged (meaning set.now) line.now }
-    ensures accepted_exactly_when_it_belongs { (j : ℕ) → (result ≡ Ok j → BelongsAs (meaning set.now) j line.now) × (BelongsAs (meaning set.now) j line.now → result ≡ Ok j) }
-    ensures refused_exactly_as_the_rules_say { (e : Refusal) → (result ≡ Err e → Refuses (meaning set.now) line.now e) × (Refuses (meaning set.now) line.now e → result ≡ Err e) }
+    ensures answer_is_the_first_fault { result ≡ judged (S.meaning set.now) line.now }
+    ensures accepted_exactly_when_it_belongs { (j : ℕ) → (result ≡ Ok j → BelongsAs (S.meaning set.now) j line.now) × (BelongsAs (S.meaning set.now) j line.now → result ≡ Ok j) }
+    ensures refused_exactly_as_the_rules_say { (e : Refusal) → (result ≡ Err e → Refuses (S.meaning set.now) line.now e) × (Refuses (S.meaning set.now) line.now e → result ≡ Err e) }
 {
     judge_fields(set, line)
 }

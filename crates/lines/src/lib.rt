@@ -1,5 +1,6 @@
 // Judging one line against any layout set.
 #![tactic(auto)]
+
 mod field_check;
 pub mod judge;
 mod parts;

@@ -11,8 +11,8 @@ use values::row::ValueRow;
 
 // How many rows the values of a line of layout j take.
 pub(crate) fn count_rows<S: LayoutSet>(set: &S, j: usize, line: &[u8]) -> usize
-    requires { Follows (layout_at (meaning set.now) j) line.now }
-    ensures { result ≡ length (rows_of (layout_at (meaning set.now) j) line.now) }
+    requires { Follows (layout_at (S.meaning set.now) j) line.now }
+    ensures { result ≡ length (rows_of (layout_at (S.meaning set.now) j) line.now) }
 {
     let mut needed = 0;
     let mut before = 0;
@@ -29,9 +29,9 @@ pub(crate) fn count_rows<S: LayoutSet>(set: &S, j: usize, line: &[u8]) -> usize
 
 // Puts the rows of a line of layout j in front of the others, which stay as they were.
 pub(crate) fn put_rows<S: LayoutSet>(set: &S, j: usize, line: &[u8], rows: &mut [ValueRow])
-    requires follows { Follows (layout_at (meaning set.now) j) line.now }
-    requires room { length (rows_of (layout_at (meaning set.now) j) line.now) ≤ length rows.old }
-    ensures { rows.new ≡ rows_of (layout_at (meaning set.now) j) line.now ++ drop (length (rows_of (layout_at (meaning set.now) j) line.now)) rows.old }
+    requires follows { Follows (layout_at (S.meaning set.now) j) line.now }
+    requires room { length (rows_of (layout_at (S.meaning set.now) j) line.now) ≤ length rows.old }
+    ensures { rows.new ≡ rows_of (layout_at (S.meaning set.now) j) line.now ++ drop (length (rows_of (layout_at (S.meaning set.now) j) line.now)) rows.old }
 {
     let mut used = 0;
     let mut before = 0;

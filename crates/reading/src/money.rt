@@ -27,8 +27,8 @@ pub struct Money {
 
 // The part of the first field of a kind, in a line of layout j.
 fn part_of<'a, S: LayoutSet>(set: &S, j: usize, line: &'a [u8], kind: u8) -> &'a [u8]
-    requires { Follows (layout_at (meaning set.now) j) line.now }
-    ensures { result.now ≡ part_of kind (layout_at (meaning set.now) j) (cuts (layout_at (meaning set.now) j) line.now) }
+    requires { Follows (layout_at (S.meaning set.now) j) line.now }
+    ensures { result.now ≡ part_of kind (layout_at (S.meaning set.now) j) (cuts (layout_at (S.meaning set.now) j) line.now) }
 {
     let mut before = 0;
     let mut i = 1;
@@ -62,7 +62,7 @@ fn currency_in(part: &[u8]) -> Currency
 
 // What a line pays, or the line's first fault. Both are values that reading the line gives.
 pub fn read_money<S: LayoutSet>(set: &S, line: &[u8]) -> Result<Money, Refusal>
-    ensures { MatchResult result (λ m. HasMoney (meaning set.now) line.now m.amount.hundredths m.currency.letters) (λ e. judged (meaning set.now) line.now ≡ Err e) }
+    ensures { MatchResult result (λ m. HasMoney (S.meaning set.now) line.now m.amount.hundredths m.currency.letters) (λ e. judged (S.meaning set.now) line.now ≡ Err e) }
 {
     let j = judge(set, line)?;
     let amount = amount_in(part_of(set, j, line, b'P'));

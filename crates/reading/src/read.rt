@@ -39,8 +39,8 @@ fn digits_in(first: Option<Field>) -> u32
 
 // The rows of a line, by the definition that computes them.
 fn read_rows<S: LayoutSet>(set: &S, line: &[u8], rows: &mut [ValueRow]) -> Result<Reading, Refusal>
-    ensures answer { result ≡ answer_to (meaning set.now) line.now (length rows.old) }
-    ensures memory { rows.new ≡ rows_after (meaning set.now) line.now rows.old }
+    ensures answer { result ≡ answer_to (S.meaning set.now) line.now (length rows.old) }
+    ensures memory { rows.new ≡ rows_after (S.meaning set.now) line.now rows.old }
 {
     let j = judge(set, line)?;
     let needed = count_rows(set, j, line);
@@ -57,9 +57,9 @@ fn read_rows<S: LayoutSet>(set: &S, line: &[u8], rows: &mut [ValueRow]) -> Resul
 // Reads a line: its values into the first rows, or why it is not read, and then no row is changed.
 // The rows behind those that the values take stay as they were.
 pub fn read<S: LayoutSet>(set: &S, line: &[u8], rows: &mut [ValueRow]) -> Result<Reading, Refusal>
-    ensures answer { result ≡ answer_to (meaning set.now) line.now (length rows.old) }
-    ensures memory { rows.new ≡ rows_after (meaning set.now) line.now rows.old }
-    ensures rows_show_the_values { IfOk result (λ x. ShowsRecord (meaning set.now) x.digits line.now (take x.rows rows.new) line.now) }
+    ensures answer { result ≡ answer_to (S.meaning set.now) line.now (length rows.old) }
+    ensures memory { rows.new ≡ rows_after (S.meaning set.now) line.now rows.old }
+    ensures rows_show_the_values { IfOk result (λ x. ShowsRecord (S.meaning set.now) x.digits line.now (take x.rows rows.new) line.now) }
 {
     read_rows(set, line, rows)
 }

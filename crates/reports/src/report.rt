@@ -24,10 +24,10 @@ const NO_FAULT: FaultRow = FaultRow {
 // Surveys the bytes and writes the report, and answers its length. It refuses where there is no room
 // for all of it, and then writes nothing.
 pub fn report<S: LayoutSet>(set: &S, bytes: &[u8], out: &mut [u8]) -> Result<usize, Refusal>
-    ensures answer { result ≡ answer_of (report_of (meaning set.now) bytes.now) out.old }
-    ensures written { out.new ≡ room_after (report_of (meaning set.now) bytes.now) out.old }
-    ensures short { length (report_of (meaning set.now) bytes.now) ≤ 4022 }
-    ensures numbers_fit { length bytes.now ≤ 65536 → NumbersFit (meaning set.now) bytes.now }
+    ensures answer { result ≡ answer_of (report_of (S.meaning set.now) bytes.now) out.old }
+    ensures written { out.new ≡ room_after (report_of (S.meaning set.now) bytes.now) out.old }
+    ensures short { length (report_of (S.meaning set.now) bytes.now) ≤ 4022 }
+    ensures numbers_fit { length bytes.now ≤ 65536 → NumbersFit (S.meaning set.now) bytes.now }
 {
     if bytes.len() > MOST_BYTES {
         return put_text(out, b"TOO LONG\n");

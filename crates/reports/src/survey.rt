@@ -25,8 +25,8 @@ fn note_line<S: LayoutSet>(
     bad: usize,
 ) -> usize
     requires { bad + 1 < 2 ^ 64 }
-    ensures count { result ≡ bad + length (fault_of n (judged (meaning set.now) line.now)) }
-    ensures rows { rows.new ≡ laid rows.old bad (fault_of n (judged (meaning set.now) line.now)) }
+    ensures count { result ≡ bad + length (fault_of n (judged (S.meaning set.now) line.now)) }
+    ensures rows { rows.new ≡ laid rows.old bad (fault_of n (judged (S.meaning set.now) line.now)) }
 {
     if let Err(fault) = judge(set, line) {
         let row = FaultRow {
@@ -45,8 +45,8 @@ fn note_line<S: LayoutSet>(
 // they last. Bytes behind the last CR LF are one more line, a bad one.
 pub fn survey<S: LayoutSet>(set: &S, bytes: &[u8], rows: &mut [FaultRow]) -> Found
     ensures lines { result.lines ≡ lines_in bytes.now }
-    ensures bad { result.bad ≡ length (faults_of (meaning set.now) bytes.now) }
-    ensures rows { rows.new ≡ laid_over rows.old (faults_of (meaning set.now) bytes.now) }
+    ensures bad { result.bad ≡ length (faults_of (S.meaning set.now) bytes.now) }
+    ensures rows { rows.new ≡ laid_over rows.old (faults_of (S.meaning set.now) bytes.now) }
 {
     let mut lines = 0;
     let mut bad = 0;

@@ -28,7 +28,7 @@ pub fn play<S: LayoutSet>(
     kept: &mut [u8],
     call: Call<'_>,
 ) -> Result<(), Refusal>
-    ensures { Meets (called (meaning set.now) (act_of call.entry)) draft.old file.old rows.old kept.old draft.new file.new rows.new kept.new result }
+    ensures { Meets (called (S.meaning set.now) (act_of call.entry)) draft.old file.old rows.old kept.old draft.new file.new rows.new kept.new result }
 {
     match call {
         Call::Import(delivery) => draft.import(set, file, rows, kept, delivery),

@@ -25,11 +25,11 @@ pub fn replay<S: LayoutSet>(
     kept: &mut [u8],
     calls: &[Call<'_>],
 ) -> Replayed
-    ensures plays_the_calls_in_their_order { Played (meaning set.now) file.old rows.old kept.old calls.now result.draft file.new rows.new kept.new result.accepted }
-    ensures used_bytes_are_the_last_file { UsedBytesAreTheLastFile (meaning set.now) }
-    ensures they_are_the_writing_of_one_list_of_records { TheyAreTheWritingOfOneListOfRecords (meaning set.now) }
-    ensures amounts_are_what_came_in_less_what_went_out { AmountsAreWhatCameInLessWhatWentOut (meaning set.now) }
-    ensures undo_leads_back_through_every_file { UndoLeadsBackThroughEveryFile (meaning set.now) }
+    ensures plays_the_calls_in_their_order { Played (S.meaning set.now) file.old rows.old kept.old calls.now result.draft file.new rows.new kept.new result.accepted }
+    ensures used_bytes_are_the_last_file { UsedBytesAreTheLastFile (S.meaning set.now) }
+    ensures they_are_the_writing_of_one_list_of_records { TheyAreTheWritingOfOneListOfRecords (S.meaning set.now) }
+    ensures amounts_are_what_came_in_less_what_went_out { AmountsAreWhatCameInLessWhatWentOut (S.meaning set.now) }
+    ensures undo_leads_back_through_every_file { UndoLeadsBackThroughEveryFile (S.meaning set.now) }
 {
     let mut draft = Draft::new();
     let mut accepted = 0;

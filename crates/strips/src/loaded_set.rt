@@ -19,7 +19,7 @@ pub struct LoadedSet {
 
 // The fields of layout j of a set.
 fn fields_of<S: LayoutSet>(set: &S, j: usize, heap: Global) -> Result<Vec<Field>, AllocError>
-    ensures { IfOk result (λ v. v.items ≡ layout_at (meaning set.now) j) }
+    ensures { IfOk result (λ v. v.items ≡ layout_at (S.meaning set.now) j) }
 {
     let mut fields = Vec::new(heap);
     let mut i = 1;

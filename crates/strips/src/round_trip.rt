@@ -13,7 +13,7 @@ use std::alloc::Global;
 
 // The set that is written in strips and loaded: the same layouts, unless there is no memory.
 pub fn set_by_strips<S: LayoutSet>(set: &S, heap: Global) -> Result<LoadedSet, LoadError>
-    ensures { Answers result (λ s. layouts_of s.layouts) (Ok (meaning set.now)) }
+    ensures { Answers result (λ s. layouts_of s.layouts) (Ok (S.meaning set.now)) }
 {
     let strips = write(set, heap)?;
     let mut loaded = LoadedSet::new(heap)?;

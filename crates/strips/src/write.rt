@@ -76,7 +76,7 @@ fn put_field(out: &mut Vec<u8>, f: Field) -> Result<(), AllocError>
 
 // Adds the fields of layout j.
 fn put_layout<S: LayoutSet>(set: &S, j: usize, out: &mut Vec<u8>) -> Result<(), AllocError>
-    ensures { OnOk result (out.new.items ≡ out.old.items ++ flat_map strip_of (layout_at (meaning set.now) j)) }
+    ensures { OnOk result (out.new.items ≡ out.old.items ++ flat_map strip_of (layout_at (S.meaning set.now) j)) }
 {
     let mut i = 1;
     while let Some(f) = set.field(j, i) {
@@ -88,7 +88,7 @@ fn put_layout<S: LayoutSet>(set: &S, j: usize, out: &mut Vec<u8>) -> Result<(), 
 
 // The strips of any layout set.
 pub fn write<S: LayoutSet>(set: &S, heap: Global) -> Result<Vec<u8>, AllocError>
-    ensures { IfOk result (λ v. v.items ≡ strips_of (meaning set.now)) }
+    ensures { IfOk result (λ v. v.items ≡ strips_of (S.meaning set.now)) }
 {
     let mut out = Vec::new(heap);
     for j in 1..=set.layouts() {

@@ -114,7 +114,7 @@ pub(crate) fn check_fields<S: LayoutSet>(
     rows: &[ValueRow],
     bytes: &[u8],
 ) -> Result<Size, Refusal>
-    ensures { result ≡ sized (length rows.now) (field_steps 1 (layout_at (meaning set.now) j) bytes.now rows.now) }
+    ensures { result ≡ sized (length rows.now) (field_steps 1 (layout_at (S.meaning set.now) j) bytes.now rows.now) }
 {
     let mut wide = 0;
     let mut used = 0;

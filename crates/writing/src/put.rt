@@ -110,9 +110,9 @@ pub(crate) fn put_fields<S: LayoutSet>(
     bytes: &[u8],
     out: &mut [u8],
 )
-    requires suits { is_done (field_steps 1 (layout_at (meaning set.now) j) bytes.now rows.now) ≡ true }
-    requires room { length (bytes_of (field_steps 1 (layout_at (meaning set.now) j) bytes.now rows.now)) ≤ length out.old }
-    ensures { out.new ≡ in_front (bytes_of (field_steps 1 (layout_at (meaning set.now) j) bytes.now rows.now)) out.old }
+    requires suits { is_done (field_steps 1 (layout_at (S.meaning set.now) j) bytes.now rows.now) ≡ true }
+    requires room { length (bytes_of (field_steps 1 (layout_at (S.meaning set.now) j) bytes.now rows.now)) ≤ length out.old }
+    ensures { out.new ≡ in_front (bytes_of (field_steps 1 (layout_at (S.meaning set.now) j) bytes.now rows.now)) out.old }
 {
     let mut place = 0;
     let mut used = 0;

@@ -35,8 +35,8 @@ fn write_line<S: LayoutSet>(
     bytes: &[u8],
     out: &mut [u8],
 ) -> Result<usize, Refusal>
-    ensures answer { result ≡ length_of (length out.old) (line_for (meaning set.now) digits bytes.now rows.now) }
-    ensures memory { out.new ≡ memory_after out.old (line_for (meaning set.now) digits bytes.now rows.now) }
+    ensures answer { result ≡ length_of (length out.old) (line_for (S.meaning set.now) digits bytes.now rows.now) }
+    ensures memory { out.new ≡ memory_after out.old (line_for (S.meaning set.now) digits bytes.now rows.now) }
 {
     let Some(j) = find(set, u64::from(digits)) else {
         return Err(refused(Reason::UnknownDigits));
@@ -61,11 +61,11 @@ pub fn write<S: LayoutSet>(
     bytes: &[u8],
     out: &mut [u8],
 ) -> Result<usize, Refusal>
-    ensures answer { result ≡ length_of (length out.old) (line_for (meaning set.now) digits bytes.now rows.now) }
-    ensures memory { out.new ≡ memory_after out.old (line_for (meaning set.now) digits bytes.now rows.now) }
-    ensures what_is_written_belongs { IfOk result (λ n. Belongs (meaning set.now) (take n out.new)) }
-    ensures reading_what_was_written_gives_the_same_values { IfOk result (λ n. ShowsRecord (meaning set.now) digits bytes.now rows.now (take n out.new)) }
-    ensures writing_what_was_read_gives_the_same_bytes { (line : List ℕ) → ShowsRecord (meaning set.now) digits bytes.now rows.now line → length line ≤ length out.old → (result ≡ Ok (length line)) × (out.new ≡ in_front line out.old) }
+    ensures answer { result ≡ length_of (length out.old) (line_for (S.meaning set.now) digits bytes.now rows.now) }
+    ensures memory { out.new ≡ memory_after out.old (line_for (S.meaning set.now) digits bytes.now rows.now) }
+    ensures what_is_written_belongs { IfOk result (λ n. Belongs (S.meaning set.now) (take n out.new)) }
+    ensures reading_what_was_written_gives_the_same_values { IfOk result (λ n. ShowsRecord (S.meaning set.now) digits bytes.now rows.now (take n out.new)) }
+    ensures writing_what_was_read_gives_the_same_bytes { (line : List ℕ) → ShowsRecord (S.meaning set.now) digits bytes.now rows.now line → length line ≤ length out.old → (result ≡ Ok (length line)) × (out.new ≡ in_front line out.old) }
 {
     write_line(set, digits, rows, bytes, out)
 }

@@ -6,8 +6,8 @@ use Rattle.lines.proofs.field_check.number_end.Goals as goal
 
 pub returns : goal.returns
 returns c =
-    let h = c.in-ok-part.ensures in
+    let h = c.in_ok-part.ensures in
     let w = c.args.width in
     let i = c.args.field in
     let p = c.args.place in
-    cut_ok w i p c.args.line.now (part_in (figures w (number_test c.args.rule) (number_refusal c.args.rule)) i p) _ _ h.0 h.1 c.number-part.ensures
+    cut_ok w i p c.args.line.now (part_in (figures w (number_test c.args.rule) (number_refusal c.args.rule)) i p) _ _ h.0 h.1 c.number_part.ensures

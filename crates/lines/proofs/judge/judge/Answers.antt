@@ -8,9 +8,9 @@ returns g c =
     let ls = g.S.LayoutSet.meaning c.args.set.now in
     let law = g.met.S.LayoutSet.lawful c.args.set.now in
     let line = c.args.line.now in
-    let e = c.judge-fields.ensures in
+    let e = c.judge_fields.ensures in
     record {
-      answer-is-the-first-fault = e;
-      accepted-exactly-when-it-belongs = λ j. (λ h. judged-belongs ls line j (sym e ∙ h), λ b. e ∙ belongs-judged ls line j law b);
-      refused-exactly-as-the-rules-say = λ x. (λ h. judged-refuses ls line x law (sym e ∙ h), λ h. e ∙ refuses-judged ls line x law h);
+      answer_is_the_first_fault = e;
+      accepted_exactly_when_it_belongs = λ j. (λ h. judged-belongs ls line j (sym e ∙ h), λ b. e ∙ belongs-judged ls line j law b);
+      refused_exactly_as_the_rules_say = λ x. (λ h. judged-refuses ls line x law (sym e ∙ h), λ h. e ∙ refuses-judged ls line x law h);
     }

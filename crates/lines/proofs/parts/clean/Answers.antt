@@ -3,12 +3,12 @@ use Rattle.basics.specs.Bytes.{allowed, anywhere}
 use Rattle.basics.proofs.ByteLaws.{first-of-some}
 use Rattle.lines.proofs.parts.clean.Goals as goal
 
-pub overflow-add-place : goal.overflow-add-place
-overflow-add-place c =
+pub overflow_add-place : goal.overflow_add-place
+overflow_add-place c =
     let f = (first-of-some (anywhere (allowed c.args.class)) c.args.part.now c.in-Some.k (sym c.in-Some.ensures)).inside in
     omega arith
 
-pub overflow-add-place-in-Some : goal.overflow-add-place-in-Some
-overflow-add-place-in-Some c =
+pub overflow_add-place-in-Some : goal.overflow_add-place-in-Some
+overflow_add-place-in-Some c =
     let f = (first-of-some (anywhere (allowed c.args.class)) c.args.part.now c.in-Some.k (sym c.in-Some.ensures)).inside in
     omega arith

@@ -1,5 +1,5 @@
-use Rattle.std.proofs.Common.{◌≡◌, ◌+◌, true, false, Ok, Err, sym, ap, ◌∙◌}
-use Rattle.basics.specs.Refusals.{refusal, layer}
+use Rattle.std.proofs.Common.{◌+◌, true, false, Err, sym, ap, ◌∙◌}
+use Rattle.basics.specs.Refusals.{layer}
 use Rattle.lines.specs.Rules.{number_test, number_refusal}
 use Rattle.lines.proofs.Steps.{number_is, numbered-at}
 use Rattle.lines.proofs.parts.number_in.Goals as goal
@@ -10,9 +10,9 @@ returns-then-not-passes c =
     let i = c.args.field in
     let p = c.args.place in
     let s = c.args.part.now in
-    let n = c.unwrap-or-n.result in
-    let h = sym c.in-ok-clean.ensures in
-    let is = number_is i p s _ n c.value.result h c.requires.1 c.value.ensures c.unwrap-or-n.ensures in
+    let n = c.unwrap_or-n.result in
+    let h = sym c.in_ok-clean.ensures in
+    let is = number_is i p s _ n c.value.result h c.requires.1 c.value.ensures c.unwrap_or-n.ensures in
     ap Err (c.fault.ensures ∙ ap (λ x. record { reason = x; layer = layer 2; line = 0; field = i; byte = p + 1 }) c.reason.ensures)
     ∙ sym (numbered-at (number_test r) (number_refusal r) i p s _ n false h is (sym c.if-not-passes.ensures))
 
@@ -22,7 +22,7 @@ returns c =
     let i = c.args.field in
     let p = c.args.place in
     let s = c.args.part.now in
-    let n = c.unwrap-or-n.result in
-    let h = sym c.in-ok-clean.ensures in
-    let is = number_is i p s _ n c.value.result h c.requires.1 c.value.ensures c.unwrap-or-n.ensures in
+    let n = c.unwrap_or-n.result in
+    let h = sym c.in_ok-clean.ensures in
+    let is = number_is i p s _ n c.value.result h c.requires.1 c.value.ensures c.unwrap_or-n.ensures in
     sym (numbered-at (number_test r) (number_refusal r) i p s _ n true h is (sym c.if-not-passes.ensures))

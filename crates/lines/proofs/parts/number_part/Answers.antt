@@ -1,19 +1,19 @@
-use Rattle.std.proofs.Common.{◌≡◌, ◌+◌, length, Ok, sym, ap, ◌∙◌}
+use Rattle.std.proofs.Common.{◌+◌, length, Ok, sym, ap, ◌∙◌}
 use Rattle.std.proofs.lemmas.Result.{err_from_is_err_and}
 use Rattle.lines.specs.Rules.{number_test, number_refusal}
 use Rattle.lines.specs.Judging.{and_then}
 use Rattle.lines.proofs.Steps.{part-figures}
 use Rattle.lines.proofs.parts.number_part.Goals as goal
 
-pub returns-in-err-number-in : goal.returns-in-err-number-in
-returns-in-err-number-in c =
-    let x = err_from_is_err_and c.from-residual.result c.from-residual.ensures.1 in
+pub returns-in_err-number_in : goal.returns-in_err-number_in
+returns-in_err-number_in c =
+    let x = err_from_is_err_and c.from_residual.result c.from_residual.ensures.1 in
     let r = c.args.rule in
     let i = c.args.field in
     let p = c.args.place in
     let s = c.args.part.now in
     let all = part-figures (length s) (number_test r) (number_refusal r) i p s in
-    rw (x.1, x.2) (sym (all ∙ ap (λ t. and_then t (λ m. Ok (p + length s))) (sym c.in-err-number-in.ensures)))
+    rw (x.1, x.2) (sym (all ∙ ap (λ t. and_then t (λ m. Ok (p + length s))) (sym c.in_err-number_in.ensures)))
 
 pub returns : goal.returns
 returns c =
@@ -21,4 +21,4 @@ returns c =
     let i = c.args.field in
     let p = c.args.place in
     let s = c.args.part.now in
-    sym (part-figures (length s) (number_test r) (number_refusal r) i p s ∙ ap (λ t. and_then t (λ m. Ok (p + length s))) (sym c.in-ok-number-in.ensures))
+    sym (part-figures (length s) (number_test r) (number_refusal r) i p s ∙ ap (λ t. and_then t (λ m. Ok (p + length s))) (sym c.in_ok-number_in.ensures))

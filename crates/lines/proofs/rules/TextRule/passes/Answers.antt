@@ -8,7 +8,7 @@ use Rattle.lines.proofs.rules.TextRule.passes.Goals as goal
 pub returns-in-Filled : goal.returns-in-Filled
 returns-in-Filled c =
     let s = c.args.part.now in
-    c.is-some.ensures
-    ∙ ap (λ o. is_some o) c.first-forbidden.ensures
+    c.is_some.ensures
+    ∙ ap (λ o. is_some o) c.first_forbidden.ensures
     ∙ forbidden-test (allowed Blank) 0 s
     ∙ sym (ap (λ r. text_test r s) c.in-Filled.is)
