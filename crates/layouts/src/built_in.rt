@@ -1,4 +1,4 @@
-// The built_in set: the four record types as fixed tables.
+// The built-in set: the four record types as fixed tables.
 ghost use Rattle.std.specs.Prelude.{◌≡◌};
 ghost use Rattle.layouts.specs.Layouts.{place};
 ghost use Rattle.layouts.specs.Tables.{built_in};

@@ -1,5 +1,6 @@
 // Layout sets that are written in strips.
 #![tactic(auto)]
+
 mod kind;
 pub mod load;
 pub mod loaded_set;

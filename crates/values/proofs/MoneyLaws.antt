@@ -1,7 +1,6 @@
 -- A record's amount and currency: they stand in the one field of their kind, keep its rule, and are read from there.
-use Rattle.std.proofs.Common.{◌≡◌, ℕ, zero, suc, ◌+◌, ◌-◌, ◌<◌, ◌≤◌, Bool, true, false, cond, ◌&&◌, eqb, leb, List, [], ◌∷◌, ◌++◌, length, get_or, take, drop, Some, None, sym, refl, ap, ◌∙◌, subst, append_assoc, zero-add, arith}
+use Rattle.std.proofs.Common.{◌≡◌, ℕ, ◌+◌, ◌≤◌, true, false, cond, ◌&&◌, eqb, leb, List, [], ◌∷◌, ◌++◌, length, sym, refl, ap, ◌∙◌, subst, append_assoc, arith}
 use borrow.Author.Tests.{clash}
-use Rattle.std.proofs.lemmas.List.{drop-drop}
 use Rattle.std.proofs.lemmas.Bool.{and_parts, and_from, leb-true, eqb-true, eq-eqb, ne_eqb}
 use Rattle.basics.specs.declared.bytes.ByteClass.TheVariants as class
 use Rattle.basics.specs.Bytes.{allowed, all}
@@ -11,11 +10,10 @@ use Rattle.basics.specs.Texts.{front, trim}
 use Rattle.basics.proofs.ByteLaws.{at_all}
 use Rattle.layouts.specs.declared.field.Field.{Field}
 use Rattle.layouts.specs.declared.field.Field.TheVariants.{Record, Range, Number, Zeros, Text, FilledText, Blanks, Day, DayOrZero, Amount, Currency, OneOf, Lines, AllOrNoLines}
-use Rattle.layouts.specs.Kinds.{shape, figures, letters, any_text}
-use Rattle.layouts.specs.Layouts.{place, letter, later, figured, times, full_width, lawful_layout}
-use Rattle.layouts.proofs.Places.{drop-at-place, drop-at-none}
-use Rattle.lines.specs.Belongs.{Fit, Writes, Parts, joining, Follows}
-use Rattle.values.specs.Values.{Value, is_number, is_text, extent, cuts, field_values, values_in, values_of}
+use Rattle.layouts.specs.Kinds.{shape, figures}
+use Rattle.layouts.specs.Layouts.{letter, later, figured, times, full_width, lawful_layout}
+use Rattle.lines.specs.Belongs.{Fit, Writes, Parts, Follows}
+use Rattle.values.specs.Values.{Value, is_number, is_text, cuts, field_values, values_in, values_of}
 use Rattle.values.specs.Money.{part_of, amount_of, currency_of, Among}
 use Rattle.values.proofs.RecordLaws.{cut-follows}
 

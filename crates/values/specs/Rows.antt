@@ -1,5 +1,5 @@
 -- Rows that hold values, and the values that rows show.
-use Rattle.std.specs.Prelude.{◌≡◌, ℕ, zero, suc, ◌+◌, ◌-◌, Bool, true, ◌&&◌, List, [], ◌∷◌, ◌++◌, length, take, drop, set, nat_le, slice_index, slice_set}
+use Rattle.std.specs.Prelude.{◌≡◌, ℕ, zero, suc, ◌+◌, ◌-◌, Bool, true, ◌&&◌, List, [], ◌∷◌, ◌++◌, length, take, drop, nat_le, slice_index, slice_set}
 use Rattle.basics.specs.Decimals.{number_of}
 use Rattle.basics.specs.Texts.{trim}
 use Rattle.layouts.specs.declared.field.Field.{Field}

@@ -6,16 +6,16 @@ use Rattle.basics.proofs.ByteLaws.{forbidden-test}
 use Rattle.layouts.specs.declared.field.Field.TheVariants as field
 use Rattle.strips.proofs.kind.codes_in.Goals as goal
 
-pub returns-then-is-some : goal.returns-then-is-some
-returns-then-is-some c =
+pub returns-then-is_some : goal.returns-then-is_some
+returns-then-is_some c =
     let s = c.args.body.now in
     let t = forbidden-test (allowed class.Text) 0 s in
-    let bad = not-true (all (allowed class.Text) s) (sym t ∙ ap (λ o. is_some o) (sym c.first-forbidden.ensures) ∙ sym c.if-is-some.ensures) in
+    let bad = not-true (all (allowed class.Text) s) (sym t ∙ ap (λ o. is_some o) (sym c.first_forbidden.ensures) ∙ sym c.if-is_some.ensures) in
     sym (ap (λ b. cond b (Some (field.OneOf (get_or s 0 0) (get_or s 1 0) (get_or s 2 0) (get_or s 3 0))) None) bad)
 
 pub returns : goal.returns
 returns c =
     let s = c.args.body.now in
     let t = forbidden-test (allowed class.Text) 0 s in
-    let good = not-false (all (allowed class.Text) s) (sym t ∙ ap (λ o. is_some o) (sym c.first-forbidden.ensures) ∙ sym c.if-is-some.ensures) in
+    let good = not-false (all (allowed class.Text) s) (sym t ∙ ap (λ o. is_some o) (sym c.first_forbidden.ensures) ∙ sym c.if-is_some.ensures) in
     sym (ap (λ b. cond b (Some (field.OneOf (get_or s 0 0) (get_or s 1 0) (get_or s 2 0) (get_or s 3 0))) None) good)

@@ -7,5 +7,5 @@ pub returns : goal.returns
 returns g c =
     let ls = g.S.LayoutSet.meaning c.args.set.now in
     sym (writes-read ls (g.met.S.LayoutSet.lawful c.args.set.now))
-    ∙ ap read (sym c.in-ok-strips.ensures ∙ sym c.deref.ensures.value)
-    ∙ c.in-ok-load.ensures.replaced-whole-or-left-as-it-was
+    ∙ ap read (sym c.in_ok-strips.ensures ∙ sym c.deref.ensures.value)
+    ∙ c.in_ok-load.ensures.replaced_whole_or_left_as_it_was

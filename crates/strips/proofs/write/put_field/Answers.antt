@@ -7,6 +7,6 @@ pub returns : goal.returns
 returns c =
     let f = c.args.f in
     let was = vec_items c.args.out.now in
-    c.in-ok-put-body.ensures
-    ∙ ap (λ s. s ++ body f) (c.in-ok-push.ensures.items ∙ ap (λ x. was ++ (x ∷ [])) c.letter-of.ensures)
+    c.in_ok-put_body.ensures
+    ∙ ap (λ s. s ++ body f) (c.in_ok-push.ensures.items ∙ ap (λ x. was ++ (x ∷ [])) c.letter_of.ensures)
     ∙ append_assoc was (letter f ∷ []) (body f)

@@ -7,8 +7,8 @@ use Rattle.strips.specs.Strips.{strip_of}
 use Rattle.strips.proofs.WriteLaws.{field_put, fields-put}
 use Rattle.strips.proofs.write.put_layout.Goals as goal
 
-pub overflow-add-i : goal.overflow-add-i
-overflow-add-i g c =
+pub overflow_add-i : goal.overflow_add-i
+overflow_add-i g c =
     let ls = g.S.LayoutSet.meaning c.args.set.now in
     let m = lawful-fields ls c.args.j (g.met.S.LayoutSet.lawful c.args.set.now) in
     let h = place-within (layout_at ls c.args.j) c.loop-f.i c.in-Some.f (sym c.in-Some.ensures) in
@@ -25,9 +25,9 @@ loop-f-preserved g c =
     let l = layout_at (g.S.LayoutSet.meaning c.args.set.now) c.args.j in
     let i = c.loop-f.i in
     let t = field_put l i c.in-Some.f (vec_items c.loop-f.out) (sym c.in-Some.ensures) in
-    (omega arith, ap (λ s. s ++ flat_map strip_of (drop (i + 1 - 1) l)) c.in-ok-put-field.ensures ∙ t ∙ c.loop-f.invariant.1)
+    (omega arith, ap (λ s. s ++ flat_map strip_of (drop (i + 1 - 1) l)) c.in_ok-put_field.ensures ∙ t ∙ c.loop-f.invariant.1)
 
 pub returns : goal.returns
 returns g c =
     let l = layout_at (g.S.LayoutSet.meaning c.args.set.now) c.args.j in
-    sym (fields-put l c.loop-f.i (vec_items c.loop-f.out) c.loop-f.invariant.0 (sym c.in-default.ensures)) ∙ c.loop-f.invariant.1
+    sym (fields-put l c.loop-f.i (vec_items c.loop-f.out) c.loop-f.invariant.0 (sym c.in_default.ensures)) ∙ c.loop-f.invariant.1

@@ -20,6 +20,6 @@ pub returns : goal.returns
 returns c =
     let v = c.args.self.now.layouts in
     let n = v.ok.0 in
-    c.field-at.ensures
+    c.field_at.ensures
     ∙ ap (λ l. place l c.args.i) c.deref.ensures.value
     ∙ field-in-place (vec_items v) c.args.j c.args.i c.index.result.now (omega arith) (omega arith) c.index.ensures

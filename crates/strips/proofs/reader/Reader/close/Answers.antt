@@ -8,7 +8,7 @@ use Rattle.strips.proofs.reader.Reader.close.Goals as goal
 pub returns : goal.returns
 returns c =
     let r = c.args.self in
-    let lawful = sym (c.if-not-is-lawful.ensures ∙ ap lawful_layout c.deref.ensures.value) in
-    let items = c.in-ok-push.ensures.items in
+    let lawful = sym (c.if-not-is_lawful.ensures ∙ ap lawful_layout c.deref.ensures.value) in
+    let items = c.in_ok-push.ensures.items in
     finished-lawful (layouts_of r.done) (vec_items r.fields) r.from lawful
     ∙ ap Ok (sym (ap lists_of items ∙ map_push vec_items (vec_items r.done) r.fields))

@@ -10,5 +10,5 @@ returns c =
     let b = c.args.place + 1 in
     let r = reading_of c.args.self in
     let k = get_or s c.args.place 0 in
-    answers-same c.next-field.result reading_of (stepped b r k (drop b s)) (next_field b r k (drop b s)) (stepped-field b r k (drop b s) c.if-strips-place-eq85.false)
-    c.next-field.ensures
+    answers-same c.next_field.result reading_of (stepped b r k (drop b s)) (next_field b r k (drop b s)) (stepped-field b r k (drop b s) c.if-strips-place-eq85.false)
+    c.next_field.ensures
