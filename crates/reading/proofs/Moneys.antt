@@ -1,5 +1,5 @@
 -- What an answer says of a value that is there.
-use Rattle.std.proofs.Common.{◌≡◌, ℕ, ◌≤◌, Bool, true, false, List, length, Some, Ok, Option, unwrap_or, sym, ap, ◌∙◌, subst, arith, MatchOption}
+use Rattle.std.proofs.Common.{◌≡◌, ℕ, true, List, Some, Ok, Option, unwrap_or, sym, ap, ◌∙◌, subst, arith, MatchOption}
 use Rattle.basics.specs.Decimals.{number_of, value_of}
 use Rattle.basics.specs.Money.{is_amount}
 use Rattle.basics.proofs.DigitLaws.{value-some}

@@ -3,7 +3,7 @@ use Rattle.std.proofs.Common.{◌≡◌, ℕ, zero, suc, ◌+◌, ◌-◌, ◌*�
 use Rattle.std.proofs.lemmas.List.{drop-drop, take-take, take-append-drop, take_more_set, drop-set-lt, length-take}
 use Rattle.basics.specs.Decimals.{number_of}
 use Rattle.basics.proofs.DigitLaws.{Digits, number_lt}
-use Rattle.layouts.specs.Kinds.{Shape, count, block}
+use Rattle.layouts.specs.Kinds.{Shape, count}
 use Rattle.lines.specs.Belongs as lines
 use Rattle.lines.specs.Belongs.{Fit, Lawful}
 use Rattle.lines.specs.Rules.{number_test, text_test}

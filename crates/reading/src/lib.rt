@@ -1,5 +1,6 @@
 // Reading a line: its values, as rows.
 #![tactic(auto)]
+
 mod fields;
 pub mod money;
 mod parts;

@@ -5,7 +5,7 @@ use Rattle.std.proofs.lemmas.Bool.{and_parts, ltb-true}
 use Rattle.basics.specs.declared.refusal.Refusal.{Refusal}
 use Rattle.basics.specs.Refusals.{refusal}
 use Rattle.layouts.specs.declared.field.Field.{Field}
-use Rattle.layouts.specs.Kinds.{Part, figures, Shape, block, shape, count, line, width}
+use Rattle.layouts.specs.Kinds.{Part, figures, Shape, shape, count, line, width}
 use Rattle.layouts.specs.Layouts.{place}
 use Rattle.layouts.proofs.Places.{drop-at-place, drop-at-none}
 use Rattle.lines.proofs.Steps.{absurd-err, same_ok, same-err}

@@ -1,5 +1,6 @@
 // Writing rows as a line.
 #![tactic(auto)]
+
 mod check;
 mod piece;
 mod put;

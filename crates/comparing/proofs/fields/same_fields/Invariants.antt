@@ -8,8 +8,8 @@ abbrev pub invariant-loop-f : goal.invariant-loop-f
 invariant-loop-f g l =
     (1 ≤ l.i)
     × (l.used ≤ length l.rows)
-    × (l.used ≤ length l.other-rows)
-    × FieldsLeft (layout_at (g.S.LayoutSet.meaning l.set) l.j) l.bytes l.rows l.other-bytes l.other-rows l.i l.used
+    × (l.used ≤ length l.other_rows)
+    × FieldsLeft (layout_at (g.S.LayoutSet.meaning l.set) l.j) l.bytes l.rows l.other_bytes l.other_rows l.i l.used
 
 abbrev pub decreases-loop-f : goal.decreases-loop-f
 decreases-loop-f g l = length (layout_at (g.S.LayoutSet.meaning l.set) l.j) + 1 - l.i

@@ -10,10 +10,10 @@ returns g c =
     let line = c.args.line.now in
     let other = c.args.other.now in
     let d = slice_eq-Decides Decides-eqb line other c.eq.result c.eq.ensures in
-    let e = sym c.in-ok-judge.ensures.answer-is-the-first-fault in
-    let f = sym c.in-ok-judge-2.ensures.answer-is-the-first-fault in
+    let e = sym c.in_ok-judge.ensures.answer_is_the_first_fault in
+    let f = sym c.in_ok-judge-2.ensures.answer_is_the_first_fault in
     record {
       answer = both-judged ls line other _ _ c.eq.result e f (tells-bytes line other c.eq.result d);
-      equal-digits-and-values = tells-records ls line other (g.met.S.LayoutSet.lawful c.args.set.now) _ e c.eq.result d;
-      equal-values-mean-equal-lines = d;
+      equal_digits_and_values = tells-records ls line other (g.met.S.LayoutSet.lawful c.args.set.now) _ e c.eq.result d;
+      equal_values_mean_equal_lines = d;
     }

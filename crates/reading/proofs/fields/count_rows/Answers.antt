@@ -8,28 +8,28 @@ use Rattle.values.specs.Rows.{field_rows, rows_in}
 use Rattle.reading.proofs.Walks.{part-lawful, turn, rows_end, length-split}
 use Rattle.reading.proofs.fields.count_rows.Goals as goal
 
-pub part-at-part-requires : goal.part-at-part-requires
-part-at-part-requires g c =
+pub part_at-part-requires : goal.part_at-part-requires
+part_at-part-requires g c =
     let l = layout_at (g.S.LayoutSet.meaning c.args.set.now) c.args.j in
     record {
       here = c.loop-f.invariant.1;
-      lawful = part-lawful l c.args.line.now c.loop-f.i c.loop-f.before c.in-Some.f (shape_of c.form-of-form.result) (sym c.in-Some.ensures) c.form-of-form.ensures c.loop-f.invariant.3;
+      lawful = part-lawful l c.args.line.now c.loop-f.i c.loop-f.before c.in-Some.f (shape_of c.form_of-form.result) (sym c.in-Some.ensures) c.form_of-form.ensures c.loop-f.invariant.3;
     }
 
-pub count-part-needed-requires : goal.count-part-needed-requires
-count-part-needed-requires g c =
+pub count_part-needed-requires : goal.count_part-needed-requires
+count_part-needed-requires g c =
     let l = layout_at (g.S.LayoutSet.meaning c.args.set.now) c.args.j in
-    (turn l c.args.line.now c.loop-f.i c.loop-f.before c.in-Some.f (shape_of c.form-of-form.result) c.part-at-part.result.now c.loop-f.invariant.1 (sym c.in-Some.ensures) c.form-of-form.ensures c.loop-f.invariant.3 c.part-at-part.ensures).lawful
+    (turn l c.args.line.now c.loop-f.i c.loop-f.before c.in-Some.f (shape_of c.form_of-form.result) c.part_at-part.result.now c.loop-f.invariant.1 (sym c.in-Some.ensures) c.form_of-form.ensures c.loop-f.invariant.3 c.part_at-part.ensures).lawful
 
-pub overflow-add-needed : goal.overflow-add-needed
-overflow-add-needed g c =
+pub overflow_add-needed : goal.overflow_add-needed
+overflow_add-needed g c =
     let ls = g.S.LayoutSet.meaning c.args.set.now in
     let m = lawful-fields ls c.args.j (g.met.S.LayoutSet.lawful c.args.set.now) in
     let h = place-within (layout_at ls c.args.j) c.loop-f.i c.in-Some.f (sym c.in-Some.ensures) in
-    omega (arith, c.loop-f.invariant.2, c.count-part-needed.ensures.few)
+    omega (arith, c.loop-f.invariant.2, c.count_part-needed.ensures.few)
 
-pub overflow-add-i : goal.overflow-add-i
-overflow-add-i g c =
+pub overflow_add-i : goal.overflow_add-i
+overflow_add-i g c =
     let ls = g.S.LayoutSet.meaning c.args.set.now in
     let m = lawful-fields ls c.args.j (g.met.S.LayoutSet.lawful c.args.set.now) in
     let h = place-within (layout_at ls c.args.j) c.loop-f.i c.in-Some.f (sym c.in-Some.ensures) in
@@ -47,11 +47,11 @@ loop-f-preserved g c =
     let line = c.args.line.now in
     let i = c.loop-f.i in
     let p = c.loop-f.before in
-    let x = shape_of c.form-of-form.result in
-    let s = c.part-at-part.result.now in
-    let t = turn l line i p c.in-Some.f x s c.loop-f.invariant.1 (sym c.in-Some.ensures) c.form-of-form.ensures c.loop-f.invariant.3 c.part-at-part.ensures in
-    let few = c.count-part-needed.ensures.few in
-    let many = c.count-part-needed.ensures.rows p in
+    let x = shape_of c.form_of-form.result in
+    let s = c.part_at-part.result.now in
+    let t = turn l line i p c.in-Some.f x s c.loop-f.invariant.1 (sym c.in-Some.ensures) c.form_of-form.ensures c.loop-f.invariant.3 c.part_at-part.ensures in
+    let few = c.count_part-needed.ensures.few in
+    let many = c.count_part-needed.ensures.rows p in
     let low = c.loop-f.invariant.2 in
     let all = length-split (rows_in (drop (i - 1) l) p (cuts (drop (i - 1) l) (drop p line))) (field_rows x p s) (rows_in (drop (i + 1 - 1) l) (p + length s) (cuts (drop (i + 1 - 1) l) (drop (p + length s) line))) t.rows in
     let sum = c.loop-f.invariant.4 in
@@ -60,6 +60,6 @@ loop-f-preserved g c =
 pub returns : goal.returns
 returns g c =
     let l = layout_at (g.S.LayoutSet.meaning c.args.set.now) c.args.j in
-    let e = ap length (rows_end l c.args.line.now c.loop-f.i c.loop-f.before c.loop-f.invariant.0 (sym c.in-default.ensures)) in
+    let e = ap length (rows_end l c.args.line.now c.loop-f.i c.loop-f.before c.loop-f.invariant.0 (sym c.in_default.ensures)) in
     let sum = c.loop-f.invariant.4 in
     omega arith

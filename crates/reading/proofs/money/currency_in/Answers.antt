@@ -1,4 +1,4 @@
-use Rattle.std.proofs.Common.{◌≡◌, sym, ◌∙◌}
+use Rattle.std.proofs.Common.{sym, ◌∙◌}
 use borrow.Author.Tests.{clash}
 use Rattle.std.proofs.lemmas.Bool.{some_since}
 use Rattle.reading.proofs.Moneys.{at_some}

@@ -9,10 +9,10 @@ loop-k-preserved c =
     let u = c.lay-top.ensures.used in
     let t = c.loop-k.invariant.0 in (
       omega arith,
-      ap length c.lay-top.ensures.laid ∙ length-set c.loop-k.rows c.loop-k.top c.text-row.result ∙ c.loop-k.invariant.1,
+      ap length c.lay-top.ensures.laid ∙ length-set c.loop-k.rows c.loop-k.top c.text_row.result ∙ c.loop-k.invariant.1,
       ap (λ x. laid x c.lay-top.result left) c.lay-top.ensures.laid
-          ∙ ap (λ x. laid (set c.loop-k.rows c.loop-k.top c.text-row.result) x left) u
-          ∙ ap (λ x. laid (set c.loop-k.rows c.loop-k.top x) (c.loop-k.top + 1) left) c.text-row.ensures
+          ∙ ap (λ x. laid (set c.loop-k.rows c.loop-k.top c.text_row.result) x left) u
+          ∙ ap (λ x. laid (set c.loop-k.rows c.loop-k.top x) (c.loop-k.top + 1) left) c.text_row.ensures
           ∙ lines_more c.loop-k.rows c.loop-k.top c.args.n c.loop-k.k c.args.before c.args.part.now _ c.loop-k-test.true refl
           ∙ c.loop-k.invariant.2,
     )

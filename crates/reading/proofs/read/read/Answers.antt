@@ -11,9 +11,9 @@ returns g c =
     let old = c.args.rows.now in
     let p = rows-show-the-record ls line old (g.met.S.LayoutSet.lawful c.args.set.now) in
     record {
-      answer = c.read-rows.ensures.answer;
-      memory = c.read-rows.ensures.memory;
-      rows-show-the-values =
-          subst (λ rs. IfOk c.read-rows.result (λ x. ShowsRecord ls x.digits line (take x.rows rs) line)) (sym c.read-rows.ensures.memory)
-          (subst (λ r. IfOk r (λ x. ShowsRecord ls x.digits line (take x.rows (rows_after ls line old)) line)) (sym c.read-rows.ensures.answer) p);
+      answer = c.read_rows.ensures.answer;
+      memory = c.read_rows.ensures.memory;
+      rows_show_the_values =
+          subst (λ rs. IfOk c.read_rows.result (λ x. ShowsRecord ls x.digits line (take x.rows rs) line)) (sym c.read_rows.ensures.memory)
+          (subst (λ r. IfOk r (λ x. ShowsRecord ls x.digits line (take x.rows (rows_after ls line old)) line)) (sym c.read_rows.ensures.answer) p);
     }

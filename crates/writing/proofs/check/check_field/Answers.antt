@@ -1,4 +1,4 @@
-use Rattle.std.proofs.Common.{ℕ, ◌-◌, length, replicate, sym, ap, ◌∙◌, arith}
+use Rattle.std.proofs.Common.{ℕ, length, replicate, sym, ap, ◌∙◌, arith}
 use Rattle.std.proofs.lemmas.List.{length-replicate}
 use Rattle.values.specs.Forms.{shape_of}
 use Rattle.values.specs.Writing.{field_step, placed}
@@ -21,22 +21,22 @@ pub returns-in-Figures : goal.returns-in-Figures
 returns-in-Figures c =
     let rs = c.args.rows.now in
     record {
-      small = row_small (part_of (piece.Figures c.in-Figures.w c.in-Figures.rule)) (length rs) c.args.field c.args.bytes.now rs c.check-row.result 65535 c.check-row.ensures (omega arith);
-      size = c.check-row.ensures ∙ sym (ap (λ x. sized (length rs) (placed c.args.field (field_step (shape_of x) c.args.bytes.now rs))) c.in-Figures.is);
+      small = row_small (part_of (piece.Figures c.in-Figures.w c.in-Figures.rule)) (length rs) c.args.field c.args.bytes.now rs c.check_row.result 65535 c.check_row.ensures (omega arith);
+      size = c.check_row.ensures ∙ sym (ap (λ x. sized (length rs) (placed c.args.field (field_step (shape_of x) c.args.bytes.now rs))) c.in-Figures.is);
     }
 
 pub returns-in-Letters : goal.returns-in-Letters
 returns-in-Letters c =
     let rs = c.args.rows.now in
     record {
-      small = row_small (part_of (piece.Letters c.in-Letters.w c.in-Letters.class c.in-Letters.rule)) (length rs) c.args.field c.args.bytes.now rs c.check-row-in-Letters.result 65535 c.check-row-in-Letters.ensures (omega arith);
-      size = c.check-row-in-Letters.ensures ∙ sym (ap (λ x. sized (length rs) (placed c.args.field (field_step (shape_of x) c.args.bytes.now rs))) c.in-Letters.is);
+      small = row_small (part_of (piece.Letters c.in-Letters.w c.in-Letters.class c.in-Letters.rule)) (length rs) c.args.field c.args.bytes.now rs c.check_row-in-Letters.result 65535 c.check_row-in-Letters.ensures (omega arith);
+      size = c.check_row-in-Letters.ensures ∙ sym (ap (λ x. sized (length rs) (placed c.args.field (field_step (shape_of x) c.args.bytes.now rs))) c.in-Letters.is);
     }
 
 pub returns-in-Block : goal.returns-in-Block
 returns-in-Block c =
     let rs = c.args.rows.now in
     record {
-      small = c.check-block.ensures.small;
-      size = c.check-block.ensures.size c.in-Block.field-0 ∙ sym (ap (λ x. sized (length rs) (placed c.args.field (field_step (shape_of x) c.args.bytes.now rs))) c.in-Block.is);
+      small = c.check_block.ensures.small;
+      size = c.check_block.ensures.size c.in-Block.field-0 ∙ sym (ap (λ x. sized (length rs) (placed c.args.field (field_step (shape_of x) c.args.bytes.now rs))) c.in-Block.is);
     }

@@ -1,4 +1,4 @@
-use Rattle.std.proofs.Common.{◌-◌, sym, arith}
+use Rattle.std.proofs.Common.{sym, arith}
 use Rattle.std.proofs.lemmas.List.{take_rest}
 use Rattle.std.proofs.lemmas.Result.{err_from_is_err_and}
 use Rattle.layouts.specs.Layouts.{layout_at}
@@ -8,23 +8,23 @@ use Rattle.values.specs.Forms.{shape_of}
 use Rattle.writing.proofs.SizeLaws.{fields-stop, fields-more, fields-end}
 use Rattle.writing.proofs.check.check_fields.Goals as goal
 
-pub returns-in-err-next : goal.returns-in-err-next
-returns-in-err-next g c =
-    let p = err_from_is_err_and c.from-residual.result c.from-residual.ensures.1 in
+pub returns-in_err-next : goal.returns-in_err-next
+returns-in_err-next g c =
+    let p = err_from_is_err_and c.from_residual.result c.from_residual.ensures.1 in
     let l = layout_at (g.S.LayoutSet.meaning c.args.set.now) c.args.j in
     let rs = c.args.rows.now in
     rw (p.1, p.2)
-    (fields-stop l c.args.bytes.now rs c.loop-f.i c.loop-f.used c.loop-f.wide c.in-Some.f (shape_of c.form-of.result) _ (sym c.in-Some.ensures) c.form-of.ensures (take_rest rs c.loop-f.used) c.in-err-next.field-0.0 c.loop-f.invariant.3 c.in-err-next.ensures.size)
+    (fields-stop l c.args.bytes.now rs c.loop-f.i c.loop-f.used c.loop-f.wide c.in-Some.f (shape_of c.form_of.result) _ (sym c.in-Some.ensures) c.form_of.ensures (take_rest rs c.loop-f.used) c.in_err-next.field-0.0 c.loop-f.invariant.3 c.in_err-next.ensures.size)
 
-pub overflow-add-wide : goal.overflow-add-wide
-overflow-add-wide g c =
+pub overflow_add-wide : goal.overflow_add-wide
+overflow_add-wide g c =
     let ls = g.S.LayoutSet.meaning c.args.set.now in
     let m = lawful-fields ls c.args.j (g.met.S.LayoutSet.lawful c.args.set.now) in
     let h = place-within (layout_at ls c.args.j) c.loop-f.i c.in-Some.f (sym c.in-Some.ensures) in
-    omega (arith, c.loop-f.invariant.1, c.in-ok-next.ensures.small)
+    omega (arith, c.loop-f.invariant.1, c.in_ok-next.ensures.small)
 
-pub overflow-add-i : goal.overflow-add-i
-overflow-add-i g c =
+pub overflow_add-i : goal.overflow_add-i
+overflow_add-i g c =
     let ls = g.S.LayoutSet.meaning c.args.set.now in
     let m = lawful-fields ls c.args.j (g.met.S.LayoutSet.lawful c.args.set.now) in
     let h = place-within (layout_at ls c.args.j) c.loop-f.i c.in-Some.f (sym c.in-Some.ensures) in
@@ -40,12 +40,12 @@ pub loop-f-preserved : goal.loop-f-preserved
 loop-f-preserved g c =
     let l = layout_at (g.S.LayoutSet.meaning c.args.set.now) c.args.j in
     let rs = c.args.rows.now in
-    let small = c.in-ok-next.ensures.small in
+    let small = c.in_ok-next.ensures.small in
     let low = c.loop-f.invariant.1 in
-    let m = fields-more l c.args.bytes.now rs c.loop-f.i c.loop-f.used c.loop-f.wide c.in-Some.f (shape_of c.form-of.result) _ (sym c.in-Some.ensures) c.form-of.ensures (take_rest rs c.loop-f.used) c.in-ok-next.next c.loop-f.invariant.2 c.loop-f.invariant.3 c.in-ok-next.ensures.size in
+    let m = fields-more l c.args.bytes.now rs c.loop-f.i c.loop-f.used c.loop-f.wide c.in-Some.f (shape_of c.form_of.result) _ (sym c.in-Some.ensures) c.form_of.ensures (take_rest rs c.loop-f.used) c.in_ok-next.next c.loop-f.invariant.2 c.loop-f.invariant.3 c.in_ok-next.ensures.size in
     (omega arith, omega arith, m.0, m.1)
 
 pub returns : goal.returns
 returns g c =
     let l = layout_at (g.S.LayoutSet.meaning c.args.set.now) c.args.j in
-    fields-end l c.args.bytes.now c.args.rows.now c.loop-f.i c.loop-f.used c.loop-f.wide c.loop-f.invariant.0 (sym c.in-default.ensures) c.loop-f.invariant.2 c.loop-f.invariant.3
+    fields-end l c.args.bytes.now c.args.rows.now c.loop-f.i c.loop-f.used c.loop-f.wide c.loop-f.invariant.0 (sym c.in_default.ensures) c.loop-f.invariant.2 c.loop-f.invariant.3

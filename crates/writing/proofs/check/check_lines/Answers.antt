@@ -8,15 +8,15 @@ use Rattle.writing.proofs.check.check_lines.Goals as goal
 pub loop-k-init : goal.loop-k-init
 loop-k-init c = (omega arith, lines_start (text_test c.args.texts) c.args.n 0 c.args.bytes.now c.args.rows.now)
 
-pub returns-in-err-check-row : goal.returns-in-err-check-row
-returns-in-err-check-row c =
-    let p = err_from_is_err_and c.from-residual.result c.from-residual.ensures.1 in
+pub returns-in_err-check_row : goal.returns-in_err-check_row
+returns-in_err-check_row c =
+    let p = err_from_is_err_and c.from_residual.result c.from_residual.ensures.1 in
     rw (p.1, p.2)
-    (lines-stop (text_test c.args.texts) c.args.n c.args.field c.args.bytes.now c.args.rows.now c.loop-k.k _ _ c.loop-k-test.true (take_rest c.args.rows.now c.loop-k.k) c.loop-k.invariant.1 c.in-err-check-row.ensures)
+    (lines-stop (text_test c.args.texts) c.args.n c.args.field c.args.bytes.now c.args.rows.now c.loop-k.k _ _ c.loop-k-test.true (take_rest c.args.rows.now c.loop-k.k) c.loop-k.invariant.1 c.in_err-check_row.ensures)
 
 pub loop-k-preserved : goal.loop-k-preserved
 loop-k-preserved c =
-    lines_more (text_test c.args.texts) c.args.n c.args.field c.args.bytes.now c.args.rows.now c.loop-k.k _ _ c.loop-k-test.true (take_rest c.args.rows.now c.loop-k.k) c.loop-k.invariant.1 c.in-ok-check-row.ensures
+    lines_more (text_test c.args.texts) c.args.n c.args.field c.args.bytes.now c.args.rows.now c.loop-k.k _ _ c.loop-k-test.true (take_rest c.args.rows.now c.loop-k.k) c.loop-k.invariant.1 c.in_ok-check_row.ensures
 
 pub returns : goal.returns
 returns c =

@@ -10,8 +10,8 @@ use Rattle.writing.proofs.Memory.{front-two}
 use Rattle.writing.proofs.PutLaws.{block-ends}
 use Rattle.writing.proofs.put.put_block.Goals as goal
 
-pub put-lines-requires : goal.put-lines-requires
-put-lines-requires c =
+pub put_lines-requires : goal.put_lines-requires
+put_lines-requires c =
     let d : ValueRow = record { number = 0; place = 0; length = 0 } in
     let rs = c.args.rows.now in
     let b = block-ends (number_test c.args.counts) (text_test c.args.texts) c.args.bytes.now rs (take (length rs - 1) (drop 1 rs)) d (take_rest rs 1) c.requires.suits in
@@ -50,6 +50,6 @@ returns c =
     let is : a ≡ digits 2 n = c.put.ensures ∙ ap (λ k. digits k n) two in
     let wa : length a ≡ 2 = ap length is ∙ wd in
     record {
-      out = front-two a lines out c.put-lines.new.out wa (omega arith) c.put-lines.ensures ∙ ap (λ x. in_front (x ++ lines) out) is ∙ ap (λ x. in_front x out) (sym b.text);
+      out = front-two a lines out c.put_lines.new.out wa (omega arith) c.put_lines.ensures ∙ ap (λ x. in_front (x ++ lines) out) is ∙ ap (λ x. in_front x out) (sym b.text);
       size = b.size;
     }

@@ -13,16 +13,16 @@ returns g c =
     let bytes = c.args.bytes.now in
     let rs = c.args.rows.now in
     let old = c.args.out.now in
-    let a = c.write-line.ensures.answer in
-    let m = c.write-line.ensures.memory in
+    let a = c.write_line.ensures.answer in
+    let m = c.write_line.ensures.memory in
     record {
       answer = a;
       memory = m;
-      what-is-written-belongs =
-          subst (λ x. IfOk c.write-line.result (λ k. Belongs ls (take k x))) (sym m)
+      what_is_written_belongs =
+          subst (λ x. IfOk c.write_line.result (λ k. Belongs ls (take k x))) (sym m)
           (subst (λ r. IfOk r (λ k. Belongs ls (take k (memory_after old (line_for ls n bytes rs))))) (sym a) (belongs-what-is-written ls n bytes rs old));
-      reading-what-was-written-gives-the-same-values =
-          subst (λ x. IfOk c.write-line.result (λ k. ShowsRecord ls n bytes rs (take k x))) (sym m)
+      reading_what_was_written_gives_the_same_values =
+          subst (λ x. IfOk c.write_line.result (λ k. ShowsRecord ls n bytes rs (take k x))) (sym m)
           (subst (λ r. IfOk r (λ k. ShowsRecord ls n bytes rs (take k (memory_after old (line_for ls n bytes rs))))) (sym a) (shows-what-is-written ls n bytes rs old));
-      writing-what-was-read-gives-the-same-bytes = λ line h l. let w = writes-what-is-shown ls n bytes rs old (g.met.S.LayoutSet.lawful c.args.set.now) line h l in (a ∙ w.0, m ∙ w.1);
+      writing_what_was_read_gives_the_same_bytes = λ line h l. let w = writes-what-is-shown ls n bytes rs old (g.met.S.LayoutSet.lawful c.args.set.now) line h l in (a ∙ w.0, m ∙ w.1);
     }

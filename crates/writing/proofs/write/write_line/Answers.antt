@@ -13,8 +13,8 @@ returns-then-size-out g c =
     let bytes = c.args.bytes.now in
     let rs = c.args.rows.now in
     let out = c.args.out.now in
-    let z = c.in-ok-size.size in
-    let k = checked (layout_at ls j) bytes rs z c.in-ok-size.ensures in
+    let z = c.in_ok-size.size in
+    let k = checked (layout_at ls j) bytes rs z c.in_ok-size.ensures in
     let w = k.bytes' in
     let whole = line-whole ls c.args.digits bytes rs j (ap (found ls 1) (sym c.from.ensures) ∙ sym c.in-Some.ensures) z k c.if-size-rows.false in
     let long : length out < length k.wrote = omega arith in
@@ -28,10 +28,10 @@ returns g c =
     let bytes = c.args.bytes.now in
     let rs = c.args.rows.now in
     let out = c.args.out.now in
-    let z = c.in-ok-size.size in
-    let k = checked (layout_at ls j) bytes rs z c.in-ok-size.ensures in
+    let z = c.in_ok-size.size in
+    let k = checked (layout_at ls j) bytes rs z c.in_ok-size.ensures in
     let w = k.bytes' in
     let whole = line-whole ls c.args.digits bytes rs j (ap (found ls 1) (sym c.from.ensures) ∙ sym c.in-Some.ensures) z k c.if-size-rows.false in
     let room : length k.wrote ≤ length out = omega arith in
     let s = says-done out (line_for ls c.args.digits bytes rs) k.wrote whole room in
-    record { answer = ap Ok w ∙ s.0; memory = c.put-fields.ensures ∙ ap (λ x. in_front (bytes_of x) out) k.is ∙ s.1 }
+    record { answer = ap Ok w ∙ s.0; memory = c.put_fields.ensures ∙ ap (λ x. in_front (bytes_of x) out) k.is ∙ s.1 }
