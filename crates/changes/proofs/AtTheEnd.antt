@@ -1,5 +1,5 @@
 -- Import and add on a state whose memory is long enough: the ways behind the faults of the delivery or the line.
-use Rattle.std.proofs.Common.{◌≡◌, ℕ, ◌+◌, ◌≤◌, true, leb, List, [], ◌∷◌, ◌++◌, length, Ok, Err, Result, sym, refl, ap, ◌∙◌, arith, length-append}
+use Rattle.std.proofs.Common.{◌≡◌, ℕ, ◌+◌, ◌≤◌, true, leb, List, [], ◌∷◌, ◌++◌, length, Ok, Err, sym, refl, ap, ◌∙◌, arith, length-append}
 use Rattle.std.proofs.lemmas.List.{length-take-le}
 use Rattle.basics.specs.declared.refusal.Refusal.{Refusal}
 use Rattle.layouts.specs.declared.field.Field.{Field}
@@ -7,7 +7,7 @@ use Rattle.layouts.specs.Layouts.{is_lawful}
 use Rattle.lines.specs.Judging.{judged}
 use Rattle.files.specs.Lines.{lines_of}
 use Rattle.changes.specs.Edits.{ended}
-use Rattle.changes.specs.States.{State, Contents, within, contents, used_file}
+use Rattle.changes.specs.States.{State, within, contents, used_file}
 use Rattle.changes.specs.Calls.{required, asked, rooms, changed, appended, delivered, importing, adding}
 use Rattle.changes.proofs.Growing.{grown-by-line, grown-by-delivery}
 use Rattle.changes.proofs.CallLaws.{asked-on, import-on, add-on, append-over, append-on, change-refused, change-made}

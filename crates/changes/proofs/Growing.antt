@@ -1,9 +1,8 @@
 -- How many lines a file has once lines are put at its end, also behind an unended rest.
-use Rattle.std.proofs.Common.{◌≡◌, ℕ, zero, suc, ◌+◌, ◌<◌, ◌≤◌, Bool, true, false, cond, ◌&&◌, eqb, List, [], ◌∷◌, ◌++◌, length, Some, None, Ok, Err, Result, sym, refl, ap, ◌∙◌, subst, append_assoc, append-nil, arith, length-append}
-use Rattle.std.proofs.lemmas.Bool.{and_parts, and_right, ne_eqb, cond-false, eqb-true, eq-eqb}
+use Rattle.std.proofs.Common.{◌≡◌, ℕ, ◌+◌, true, false, cond, eqb, List, [], ◌∷◌, ◌++◌, length, Some, None, Ok, Err, sym, refl, ap, ◌∙◌, subst, append_assoc, append-nil, arith, length-append}
+use Rattle.std.proofs.lemmas.Bool.{and_parts, and_right, ne_eqb, cond-false, eq-eqb}
 use Rattle.std.specs.Option.{option_map}
 use Rattle.basics.specs.declared.bytes.ByteClass.TheVariants as class
-use Rattle.basics.specs.declared.refusal.Refusal.{Refusal}
 use Rattle.basics.specs.Bytes.{allowed, all}
 use Rattle.basics.specs.Refusals.{refusal}
 use Rattle.layouts.specs.declared.field.Field.{Field}
@@ -13,7 +12,7 @@ use Rattle.lines.proofs.Steps.{absurd-err}
 use Rattle.lines.proofs.Judged.{judged-belongs}
 use Rattle.lines.proofs.TextOnly.{TextOnly, belongs-text}
 use Rattle.files.specs.Lines.{ends, line_end, lines_of, rest_of, written, Whole}
-use Rattle.files.specs.Files.{file_judged, Records, FileOf}
+use Rattle.files.specs.Files.{file_judged, FileOf}
 use Rattle.files.proofs.Cuts.{joined, whole-lines, rest-uncut, cut-back, uncut-front, uncut-back}
 use Rattle.files.proofs.FileLaws.{text-high, text-uncut, accepted-file}
 use Rattle.changes.specs.Edits.{ended}

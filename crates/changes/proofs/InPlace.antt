@@ -1,5 +1,5 @@
 -- Replace and strike on a state whose memory is long enough: the ways behind the search for the line.
-use Rattle.std.proofs.Common.{◌≡◌, ℕ, ◌+◌, ◌-◌, ◌<◌, ◌≤◌, true, false, List, [], ◌∷◌, ◌++◌, length, take, drop, Some, None, Ok, Err, Result, sym, refl, ap, ◌∙◌, subst, arith}
+use Rattle.std.proofs.Common.{◌≡◌, ℕ, ◌+◌, ◌-◌, ◌<◌, ◌≤◌, false, List, [], length, take, drop, Some, None, Ok, Err, sym, ap, ◌∙◌, arith}
 use native.Mathlib.Nat.{sub-zero}
 use Rattle.std.proofs.lemmas.List.{length-take-le}
 use Rattle.basics.specs.declared.refusal.Refusal.{Refusal}
@@ -9,11 +9,11 @@ use Rattle.files.specs.Lines.{lines_of}
 use Rattle.changes.specs.declared.places.LinePlace.{LinePlace}
 use Rattle.changes.specs.Edits.{has_line, line_of, replaced, struck}
 use Rattle.changes.specs.Places.{place_of, behind_lines}
-use Rattle.changes.specs.States.{State, Contents, within, contents, used_file}
+use Rattle.changes.specs.States.{State, within, contents, used_file}
 use Rattle.changes.specs.Calls.{draft_refusal, required, asked, rooms, changed, change, replacing, striking}
 use Rattle.changes.proofs.PlaceLaws.{PlacedAt, BehindAt, place-some, place-not, behind-some, behind-not, spliced, struck-is, line_at}
 use Rattle.changes.proofs.CallLaws.{asked-on, replace-none, replace-fault, replace-on, strike-none, strike-on, change-refused, change-made, used-part}
-use Rattle.changes.proofs.UndoLaws.{found_within, replaced-at, replaced-size, length-spliced}
+use Rattle.changes.proofs.UndoLaws.{found_within, replaced-size, length-spliced}
 
 -- the search was for a line of the used part
 pub placed : (F : List ℕ) (used n : ℕ) (p : LinePlace) → Some p ≡ place_of n (take (used - 0) F) → PlacedAt n p.at p.size (take used F)

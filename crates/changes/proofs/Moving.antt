@@ -1,5 +1,5 @@
 -- What memory holds in which bytes are moved and others put in their place.
-use Rattle.std.proofs.Common.{◌≡◌, ℕ, ◌+◌, ◌-◌, ◌<◌, ◌≤◌, List, [], ◌∷◌, ◌++◌, length, take, drop, sym, refl, ap, ◌∙◌, subst, append_assoc, arith, length-append, length-drop, take-add}
+use Rattle.std.proofs.Common.{◌≡◌, ℕ, ◌+◌, ◌-◌, ◌≤◌, List, ◌++◌, length, take, drop, sym, ap, ◌∙◌, append_assoc, arith, length-drop, take-add}
 use native.Mathlib.Nat.{sub-zero}
 use lib.Seq.{paste}
 use borrow.Rule.Slice.PartMut.{put_mid}

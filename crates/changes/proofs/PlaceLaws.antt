@@ -1,7 +1,7 @@
 -- Laws of places: where lines stand in bytes, and what moved bytes come to by lines.
-use Rattle.std.proofs.Common.{◌≡◌, ℕ, zero, suc, ◌+◌, ◌-◌, ◌<◌, ◌≤◌, true, false, cond, ◌&&◌, leb, List, [], ◌∷◌, ◌++◌, length, get_or, take, drop, Some, None, Option, sym, refl, ap, ◌∙◌, subst, append_assoc, zero-add, arith, length-append, length-drop, take-append-drop}
+use Rattle.std.proofs.Common.{◌≡◌, ℕ, zero, suc, ◌+◌, ◌-◌, ◌<◌, ◌≤◌, true, false, cond, leb, List, [], ◌∷◌, ◌++◌, length, get_or, take, drop, Some, None, Option, sym, refl, ap, ◌∙◌, append_assoc, arith, length-append, length-drop, take-append-drop}
 use Rattle.std.proofs.lemmas.List.{length-take-le, take_at, drop_at, take_more, drop_more, drop-drop}
-use Rattle.std.proofs.lemmas.Bool.{and_parts, and_from, and_left, and_right, leb-true, leb-false, le-leb, lt-leb, cond-true, cond-false}
+use Rattle.std.proofs.lemmas.Bool.{and_parts, and_from, and_right, leb-true, leb-false, le-leb, lt-leb, cond-true, cond-false}
 use Rattle.basics.proofs.ByteLaws.{absurd-none, same_some}
 use Rattle.files.specs.Lines.{line_end, lines_of, rest_of, written, Whole}
 use Rattle.files.proofs.Cuts.{joined, whole-lines, rest-uncut, cut-back, ends-from, cut-from, none_from, no_lines, within-from}

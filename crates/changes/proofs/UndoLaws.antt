@@ -1,16 +1,16 @@
 -- What undo answers, way by way.
-use Rattle.std.proofs.Common.{◌≡◌, ℕ, ◌+◌, ◌-◌, ◌<◌, ◌≤◌, Bool, true, false, cond, ◌&&◌, eqb, leb, List, [], ◌∷◌, ◌++◌, length, get_or, take, drop, Ok, Err, Result, sym, refl, ap, ◌∙◌, subst, ⊎_elim, append_assoc, arith, length-append, length-drop, get_or-take}
+use Rattle.std.proofs.Common.{◌≡◌, ℕ, ◌+◌, ◌-◌, ◌<◌, ◌≤◌, Bool, true, false, cond, ◌&&◌, eqb, leb, List, [], ◌∷◌, ◌++◌, length, get_or, take, drop, Ok, Err, sym, refl, ap, ◌∙◌, ⊎_elim, append_assoc, arith, length-append, length-drop, get_or-take}
 use Rattle.std.proofs.lemmas.List.{length-take-le, take_at, drop_at, take-take, drop-take}
 use Rattle.std.proofs.lemmas.Bool.{ne_eqb, eq-eqb, le-leb, lt-leb, and_left, and_right, and_from, cond-true, cond-false, cases_Bool}
 use Rattle.basics.specs.declared.refusal.Refusal.{Refusal}
-use Rattle.files.specs.Lines.{lines_of, written}
+use Rattle.files.specs.Lines.{lines_of}
 use Rattle.changes.specs.declared.change_row.ChangeRow.{ChangeRow}
-use Rattle.changes.specs.Edits.{ended, has_line, line_of, replaced, inserted}
+use Rattle.changes.specs.Edits.{ended, has_line, replaced, inserted}
 use Rattle.changes.specs.Places.{span}
 use Rattle.changes.specs.States.{State, Contents, within, contents, used_file}
 use Rattle.changes.specs.Calls.{draft_refusal, required, asked, row, last_row, row_fits, file_before, undone, taking_back, undoing}
 use Rattle.changes.specs.Backs.{TakenBack, Stuck}
-use Rattle.changes.proofs.PlaceLaws.{PlacedAt, BehindAt, spliced, line-there, line-within, replaced-is, inserted-is, span-within}
+use Rattle.changes.proofs.PlaceLaws.{PlacedAt, BehindAt, spliced, line-within, replaced-is, inserted-is, span-within}
 use Rattle.changes.proofs.CallLaws.{then_ok, then-err, passed, failed, asked-on}
 
 -- by the kind of a row

@@ -1,7 +1,7 @@
 -- A file is accepted exactly if it is records with line ends, and refused exactly by the rows of the refusals.
-use Rattle.std.proofs.Common.{◌≡◌, ℕ, zero, suc, ◌+◌, ◌<◌, ◌≤◌, Bool, true, false, cond, ◌&&◌, ◌||◌, eqb, ltb, leb, ◌⊎◌, List, [], ◌∷◌, ◌++◌, length, Some, None, Ok, Err, Option, Result, sym, refl, ap, ◌∙◌, subst, inl, inr, ⊎_elim, append-nil, add-zero, arith, length-append}
+use Rattle.std.proofs.Common.{◌≡◌, ℕ, suc, ◌+◌, ◌≤◌, true, false, cond, eqb, ltb, leb, ◌⊎◌, List, [], ◌∷◌, ◌++◌, length, Some, None, Ok, Err, sym, refl, ap, ◌∙◌, subst, inl, inr, ⊎_elim, append-nil, add-zero, arith}
 use Rattle.std.proofs.lemmas.List.{nil_from_length}
-use Rattle.std.proofs.lemmas.Bool.{ltb-true, ltb-false, lt-ltb, le-ltb, and_parts, and_left, or_cases, leb-true, ne_eqb, cond-false}
+use Rattle.std.proofs.lemmas.Bool.{ltb-true, ltb-false, lt-ltb, and_parts, and_left, or_cases, leb-true, ne_eqb, cond-false}
 use Rattle.std.specs.Option.{option_map}
 use Rattle.basics.specs.declared.bytes.ByteClass.TheVariants as class
 use Rattle.basics.specs.declared.refusal.Refusal.{Refusal}
@@ -10,7 +10,6 @@ use Rattle.basics.specs.Refusals.{refusal}
 use Rattle.layouts.specs.declared.field.Field.{Field}
 use Rattle.layouts.specs.Layouts.{is_lawful}
 use Rattle.lines.specs.Judging.{and_then, judged}
-use Rattle.lines.specs.Belongs.{Belongs}
 use Rattle.lines.specs.Refuses.{Refuses}
 use Rattle.lines.proofs.Steps.{absurd-err, same_ok, same-err}
 use Rattle.lines.proofs.Reasons.{absurd-ok}
@@ -18,9 +17,9 @@ use Rattle.lines.proofs.Judged.{judged-belongs, belongs-judged}
 use Rattle.lines.proofs.Refused.{judged-refuses, refuses-judged}
 use Rattle.lines.proofs.TextOnly.{TextOnly, belongs-text}
 use Rattle.files.specs.Lines.{ends, line_end, lines_of, rest_of, written, Whole}
-use Rattle.files.specs.Files.{named, at_line, counted, line_by_line, file_judged, Records, FileOf, Unended, TooMany, BadLine, FileRefused}
+use Rattle.files.specs.Files.{named, at_line, counted, line_by_line, file_judged, Records, FileOf, Unended, TooMany, FileRefused}
 use Rattle.files.proofs.Cuts.{joined, cutting}
-use Rattle.files.proofs.Counting.{unended, too_many, few}
+use Rattle.files.proofs.Counting.{too_many, few}
 
 -- text bytes have no line end
 pub text-high : (b : ℕ) → allowed class.Text b ≡ true → 32 ≤ b

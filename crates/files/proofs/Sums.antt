@@ -1,17 +1,15 @@
 -- Laws of totals.
-use Rattle.std.proofs.Common.{◌≡◌, ℕ, zero, suc, ◌+◌, ◌-◌, ◌*◌, ◌<◌, ◌≤◌, Bool, true, false, cond, ◌&&◌, eqb, leb, List, [], ◌∷◌, length, get_or, take, drop, Some, None, Ok, Err, Result, sym, refl, ap, ◌∙◌, subst, add-zero, add_assoc, zero-add, arith}
-use Rattle.std.proofs.lemmas.Bool.{and_parts, eqb-true, leb-true}
+use Rattle.std.proofs.Common.{◌≡◌, ℕ, ◌+◌, ◌-◌, Bool, true, false, ◌&&◌, eqb, List, [], ◌∷◌, length, get_or, take, drop, Some, None, Ok, Err, Result, sym, refl, ap, ◌∙◌, add-zero, add_assoc, zero-add, arith}
+use Rattle.std.proofs.lemmas.Bool.{and_parts, eqb-true}
 use Rattle.basics.specs.declared.bytes.ByteClass.TheVariants.{Capital}
 use Rattle.basics.specs.declared.refusal.Refusal.{Refusal}
 use Rattle.basics.specs.Bytes.{allowed, all}
-use Rattle.basics.specs.Money.{is_amount, is_currency}
+use Rattle.basics.specs.Money.{is_currency}
 use Rattle.layouts.specs.declared.field.Field.{Field}
-use Rattle.layouts.specs.Layouts.{layout_at}
 use Rattle.lines.specs.Judging.{and_then, judged}
-use Rattle.values.specs.Money.{amount_of, currency_of, HasMoney}
 use Rattle.files.specs.Lines.{line_end, lines_of}
-use Rattle.files.specs.Files.{at_line, counted, line_by_line, file_judged}
-use Rattle.files.specs.Totals.{same, worth_by, worth, paid_by, sum_of, summed}
+use Rattle.files.specs.Files.{at_line, counted, line_by_line}
+use Rattle.files.specs.Totals.{same, worth_by, paid_by, sum_of, summed}
 use Rattle.files.proofs.Cuts.{no_lines, none_from}
 use Rattle.files.proofs.Counting.{line-cut}
 

@@ -1,5 +1,6 @@
 // Surveys of files with bad lines, and their reports.
 #![tactic(auto)]
+
 pub mod fault_row;
 pub mod report;
 pub mod survey;

@@ -3,12 +3,12 @@ use Rattle.files.specs.Lines.{written}
 use Rattle.files.proofs.Cuts.{cut-from, written_from, within-from, none_from, no_lines, cutting}
 use Rattle.files.proofs.cut.count_lines.Goals as goal
 
-pub overflow-add-end : goal.overflow-add-end
-overflow-add-end c =
+pub overflow_add-end : goal.overflow_add-end
+overflow_add-end c =
     let w = within-from c.args.bytes.now c.loop-k.end c.in-Some.k c.in-Some.ensures c.loop-k.invariant.1 in omega arith
 
-pub overflow-add-end-in-Some : goal.overflow-add-end-in-Some
-overflow-add-end-in-Some c =
+pub overflow_add-end-in-Some : goal.overflow_add-end-in-Some
+overflow_add-end-in-Some c =
     let w = within-from c.args.bytes.now c.loop-k.end c.in-Some.k c.in-Some.ensures c.loop-k.invariant.1 in omega arith
 
 pub loop-k-preserved : goal.loop-k-preserved
@@ -26,7 +26,7 @@ loop-k-preserved c =
 pub returns : goal.returns
 returns c =
     let f = c.args.bytes.now in
-    let none = no_lines (drop c.loop-k.end f) (none_from f c.loop-k.end c.in-default.ensures) in
+    let none = no_lines (drop c.loop-k.end f) (none_from f c.loop-k.end c.in_default.ensures) in
     record {
       lines = omega (arith, ap length none);
       end = omega (arith, ap (λ ls. length (written ls)) none);

@@ -1,4 +1,4 @@
-use Rattle.std.proofs.Common.{◌≡◌, sym, ap, ◌∙◌, eq-eqb, ne_eqb}
+use Rattle.std.proofs.Common.{sym, ◌∙◌, eq-eqb, ne_eqb}
 use Rattle.files.specs.Totals.{same}
 use Rattle.files.proofs.Sums.{first-differs, second-differs, third-tells}
 use Rattle.files.proofs.total.same_currency.Goals as goal

@@ -18,8 +18,8 @@ returns g c =
     let is =
     report-is M f c.survey-found.new.rows (replicate 100 no_row) found.lines found.bad c.min-shown.result (omega arith) refl c.survey-found.ensures.lines c.survey-found.ensures.bad c.survey-found.ensures.rows c.min-shown.ensures in
     record {
-      answer = c.put-report.ensures.answer ∙ ap (λ t. answer_of t out) is;
-      written = c.put-report.ensures.room ∙ ap (λ t. room_after t out) is;
+      answer = c.put_report.ensures.answer ∙ ap (λ t. answer_of t out) is;
+      written = c.put_report.ensures.room ∙ ap (λ t. room_after t out) is;
       short = report-short M f;
       numbers_fit = numbers_fit M f (g.met.S.LayoutSet.lawful c.args.set.now);
     }

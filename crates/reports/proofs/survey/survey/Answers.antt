@@ -5,16 +5,16 @@ use Rattle.reports.proofs.Laying.{laid-append, laid-over}
 use Rattle.reports.proofs.Faults.{inside, one-fault, line-more, faults-more, faults-last, lines-last, rest-stands, rest-empty}
 use Rattle.reports.proofs.survey.survey.Goals as goal
 
-pub overflow-add-end : goal.overflow-add-end
-overflow-add-end g c =
+pub overflow_add-end : goal.overflow_add-end
+overflow_add-end g c =
     let w = inside c.args.bytes.now c.loop-k.at c.in-Some.k c.in-Some.ensures c.loop-k.invariant.2 in omega arith
 
-pub slice-bounds-note-line-end : goal.slice-bounds-note-line-end
-slice-bounds-note-line-end g c =
+pub slice_bounds-note_line-end : goal.slice_bounds-note_line-end
+slice_bounds-note_line-end g c =
     let w = inside c.args.bytes.now c.loop-k.at c.in-Some.k c.in-Some.ensures c.loop-k.invariant.2 in omega arith
 
-pub overflow-add-at : goal.overflow-add-at
-overflow-add-at g c =
+pub overflow_add-at : goal.overflow_add-at
+overflow_add-at g c =
     let w = inside c.args.bytes.now c.loop-k.at c.in-Some.k c.in-Some.ensures c.loop-k.invariant.2 in omega arith
 
 pub loop-k-smaller : goal.loop-k-smaller
@@ -39,7 +39,7 @@ loop-k-preserved g c =
       omega arith,
       omega (arith, line-more f at k e),
       omega (arith, ap length more, length-append this left),
-      (λ i. laid (c.note-line-bad.ensures.rows i) (c.note-line-bad.ensures.count i) left)
+      (λ i. laid (c.note_line-bad.ensures.rows i) (c.note_line-bad.ensures.count i) left)
           ∙ sym (laid-append c.loop-k.rows c.loop-k.bad this left)
           ∙ ap (laid c.loop-k.rows c.loop-k.bad) (sym more)
           ∙ c.loop-k.invariant.5,
@@ -49,7 +49,7 @@ pub returns-then-at-bytes : goal.returns-then-at-bytes
 returns-then-at-bytes g c =
     let f = c.args.bytes.now in
     let at = c.loop-k.at in
-    let e = c.in-default.ensures in
+    let e = c.in_default.ensures in
     let M = g.S.LayoutSet.meaning c.args.set.now in
     let n = c.loop-k.lines + 1 in
     let last = faults-last f at e M n ∙ rest-stands f at n c.if-at-bytes.true in
@@ -63,7 +63,7 @@ pub returns-else-at-bytes : goal.returns-else-at-bytes
 returns-else-at-bytes g c =
     let f = c.args.bytes.now in
     let at = c.loop-k.at in
-    let e = c.in-default.ensures in
+    let e = c.in_default.ensures in
     let M = g.S.LayoutSet.meaning c.args.set.now in
     let n = c.loop-k.lines + 1 in
     let last = faults-last f at e M n ∙ rest-empty f at n c.if-at-bytes.false in

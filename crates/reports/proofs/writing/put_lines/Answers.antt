@@ -21,7 +21,7 @@ loop-row-preserved c =
     let rest = fault_lines (drop (i + 1) rows) in
     let inside : at ≤ length room = omega arith in (
       omega arith,
-      ap (put_at (at + 40) rest) (c.put-at-in-loop-row.ensures ∙ ap (λ x. put_at at x room) c.fault-line.ensures)
+      ap (put_at (at + 40) rest) (c.put_at-in-loop-row.ensures ∙ ap (λ x. put_at at x room) c.fault_line.ensures)
           ∙ put_next room line rest at inside
           ∙ ap (λ x. put_at at x room) (sym (lines_more rows i no_row c.loop-row-test.true))
           ∙ c.loop-row.invariant.1,
@@ -37,5 +37,5 @@ returns c =
     sym (put-nothing room at)
     ∙ ap (λ x. put_at at x room) (sym (lines_end_lem rows c.loop-row.row-index c.loop-row-test.false))
     ∙ c.loop-row.invariant.1
-    ∙ ap (put_at 22 (fault_lines rows)) (c.put-at.ensures ∙ ap (λ x. put_into x old) c.head-line.ensures)
+    ∙ ap (put_at 22 (fault_lines rows)) (c.put_at.ensures ∙ ap (λ x. put_into x old) c.head_line.ensures)
     ∙ put_next old head (fault_lines rows) 0 (omega arith)

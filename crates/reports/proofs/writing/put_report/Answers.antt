@@ -17,4 +17,4 @@ returns c =
     let text = shown c.args.found.lines c.args.found.bad rows in
     let p =
     has_room text c.args.room.now (22 + 40 * length rows) (length-shown c.args.found.lines c.args.found.bad rows) c.if-room-length.false in
-    record { answer = p.answer; room = c.put-lines.ensures ∙ p.room' }
+    record { answer = p.answer; room = c.put_lines.ensures ∙ p.room' }
