@@ -1,5 +1,6 @@
 // Drafts: a file that is edited in lent memory, with undo, and sealed when it is done.
 #![tactic(auto)]
+
 mod calls;
 pub mod draft;
 mod moves;

@@ -1,5 +1,6 @@
 // Reads a file from standard input, judges it against the built-in set and prints the report.
 #![tactic(auto)]
+
 use layouts::built_in::BuiltIn;
 use reports::report::report;
 use std::io;

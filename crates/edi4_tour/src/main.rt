@@ -1,6 +1,7 @@
 // Follows one payment from its bytes to the verdict, and then the same payment with one damaged
 // byte. The payment is the first line of standard input.
 #![tactic(auto)]
+
 mod fields;
 mod names;
 mod own_set;

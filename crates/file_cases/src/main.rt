@@ -1,6 +1,7 @@
 // Runs whole files whose verdicts, totals and differences the rules settle, and prints what came.
 // The expected output beside this program was written from the rules.
 #![tactic(auto)]
+
 use basics::refusal::Refusal;
 use files::difference::difference;
 use files::judge_file::judge_file;

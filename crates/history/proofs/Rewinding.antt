@@ -1,5 +1,5 @@
 -- Undo, called until it is refused, where undo leads back through a list of files.
-use Rattle.std.proofs.Common.{◌≡◌, ℕ, List, [], ◌∷◌, length, Ok, Err, Result, sym, refl, ap, ◌∙◌, subst}
+use Rattle.std.proofs.Common.{◌≡◌, ℕ, List, [], ◌∷◌, length, Ok, Err, Result, sym, refl, ◌∙◌, subst}
 use Rattle.basics.specs.declared.refusal.Refusal.{Refusal}
 use Rattle.lines.proofs.Steps.{absurd-err, same-err}
 use Rattle.lines.proofs.Reasons.{absurd-ok}

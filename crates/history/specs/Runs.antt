@@ -1,5 +1,5 @@
 -- Runs: lists of calls, accepted or refused, each on what the ones before it left.
-use Rattle.std.specs.Prelude.{◌≡◌, ℕ, List, [], ◌∷◌, map, is_ok, Ok, Err, Result}
+use Rattle.std.specs.Prelude.{◌≡◌, ℕ, List, [], ◌∷◌, map, is_ok, Ok, Result}
 use Rattle.basics.specs.declared.refusal.Refusal.{Refusal}
 use Rattle.layouts.specs.declared.field.Field.{Field}
 use Rattle.changes.specs.States.{State, Contents, Promise, used_file}

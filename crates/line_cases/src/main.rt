@@ -1,6 +1,7 @@
 // Runs lines, files and reports whose answers the rules settle, and prints what came. The expected
 // output beside this program was written from the rules.
 #![tactic(auto)]
+
 mod built_lines;
 mod cases;
 mod files;

@@ -1,6 +1,7 @@
 // Loads strips whose answers the rules settle, and prints what came. The expected output beside
 // this program was written from the rules.
 #![tactic(auto)]
+
 use layouts::set::LayoutSet;
 use lines::judge::judge;
 use std::io;

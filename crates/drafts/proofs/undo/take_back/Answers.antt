@@ -1,20 +1,20 @@
-use Rattle.std.proofs.Common.{◌≡◌, ◌+◌, ◌-◌, ◌<◌, ◌≤◌, length, take, arith}
+use Rattle.std.proofs.Common.{◌-◌, ◌<◌, take, arith}
 use Rattle.std.proofs.lemmas.List.{length-take-le}
 use Rattle.changes.proofs.InPlace.{placed, not-placed, behind, not_behind}
 use Rattle.changes.proofs.UndoLaws.{unfit, misfits-2, misfits-3-past, taken-1, taken-2, taken-3, stuck-2, stuck-3}
 use Rattle.drafts.proofs.undo.take_back.Goals as goal
 
-pub returns-in-default-place-of : goal.returns-in-default-place-of
-returns-in-default-place-of c =
+pub returns-in_default-place_of : goal.returns-in_default-place_of
+returns-in_default-place_of c =
     let F = c.args.file.now in
     let f = take c.args.used F in
-    unfit c.args.change c.args.old.now f F (misfits-2 c.args.change c.args.old.now f c.in-2.is (not-placed F c.args.used c.args.change.line c.in-default-place-of.ensures.place))
+    unfit c.args.change c.args.old.now f F (misfits-2 c.args.change c.args.old.now f c.in-2.is (not-placed F c.args.used c.args.change.line c.in_default-place_of.ensures.place))
 
-pub returns-in-default-behind-lines : goal.returns-in-default-behind-lines
-returns-in-default-behind-lines c =
+pub returns-in_default-behind_lines : goal.returns-in_default-behind_lines
+returns-in_default-behind_lines c =
     let F = c.args.file.now in
     let f = take c.args.used F in
-    let n = not_behind F c.args.used (c.args.change.line - 1) c.in-default-behind-lines.ensures.place in
+    let n = not_behind F c.args.used (c.args.change.line - 1) c.in_default-behind_lines.ensures.place in
     unfit c.args.change c.args.old.now f F (misfits-3-past c.args.change c.args.old.now f c.in-3.is (omega arith))
 
 pub returns-then-old-file : goal.returns-then-old-file
@@ -27,8 +27,8 @@ pub returns-then-old-file-2 : goal.returns-then-old-file-2
 returns-then-old-file-2 c =
     let F = c.args.file.now in
     let some : 0 < c.args.change.line = omega arith in
-    let b = behind F c.args.used (c.args.change.line - 1) c.in-Some-behind-lines.at c.in-Some-behind-lines.ensures.place in
-    stuck-3 c.args.change c.args.old.now F c.args.used c.requires c.in-Some-behind-lines.at c.in-3.is some b c.if-old-file-2.true
+    let b = behind F c.args.used (c.args.change.line - 1) c.in-Some-behind_lines.at c.in-Some-behind_lines.ensures.place in
+    stuck-3 c.args.change c.args.old.now F c.args.used c.requires c.in-Some-behind_lines.at c.in-3.is some b c.if-old-file-2.true
 
 pub returns-else-change-used : goal.returns-else-change-used
 returns-else-change-used c = taken-1 c.args.change c.args.old.now c.args.file.now c.args.used c.requires c.in-1.is c.if-change-used.false
@@ -49,8 +49,8 @@ returns-else-old-file-2 c =
     let F = c.args.file.now in
     let u = c.args.used in
     let some : 0 < c.args.change.line = omega arith in
-    let b = behind F u (c.args.change.line - 1) c.in-Some-behind-lines.at c.in-Some-behind-lines.ensures.place in
+    let b = behind F u (c.args.change.line - 1) c.in-Some-behind_lines.at c.in-Some-behind_lines.ensures.place in
     let room = c.if-old-file-2.false in
     let mid = c.splice-end.ensures.used in
     let end = c.splice-in-3.ensures.used in
-    taken-3 c.args.change c.args.old.now F u c.requires c.in-Some-behind-lines.at c.splice-end.result c.splice-in-3.result c.splice-end.new.memory c.splice-in-3.new.memory c.in-3.is some b c.splice-end.ensures.holds c.splice-in-3.ensures.holds (omega arith) (omega arith)
+    taken-3 c.args.change c.args.old.now F u c.requires c.in-Some-behind_lines.at c.splice-end.result c.splice-in-3.result c.splice-end.new.memory c.splice-in-3.new.memory c.in-3.is some b c.splice-end.ensures.holds c.splice-in-3.ensures.holds (omega arith) (omega arith)

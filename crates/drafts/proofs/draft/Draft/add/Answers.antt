@@ -1,4 +1,4 @@
-use Rattle.std.proofs.Common.{◌≡◌, ℕ, List, [], ◌∷◌, ◌++◌, length, take, sym, ap, ◌∙◌, append_assoc, arith}
+use Rattle.std.proofs.Common.{◌≡◌, ℕ, List, [], ◌∷◌, ◌++◌, length, take, ap, ◌∙◌, append_assoc, arith}
 use Rattle.files.specs.Lines.{lines_of}
 use Rattle.changes.specs.Edits.{ended}
 use Rattle.changes.specs.States.{State, contents, used_file}
@@ -8,36 +8,36 @@ use Rattle.changes.proofs.AtTheEnd.{add-over, add-no-room, add_done}
 use Rattle.drafts.specs.Drafts.{state}
 use Rattle.drafts.proofs.draft.Draft.add.Goals as goal
 
-pub returns-in-err-fits : goal.returns-in-err-fits
-returns-in-err-fits g c =
+pub returns-in_err-fits : goal.returns-in_err-fits
+returns-in_err-fits g c =
     let s : State = state c.args.self.now c.args.file.now c.args.rows.now c.args.kept.now in
-    leave _ s _ _ c.from-residual.ensures.1 (asked-short _ s _ c.in-err-fits.ensures.tells)
+    leave _ s _ _ c.from_residual.ensures.1 (asked-short _ s _ c.in_err-fits.ensures.tells)
 
-pub returns-in-err-judge : goal.returns-in-err-judge
-returns-in-err-judge g c =
+pub returns-in_err-judge : goal.returns-in_err-judge
+returns-in_err-judge g c =
     let s : State = state c.args.self.now c.args.file.now c.args.rows.now c.args.kept.now in
-    leave _ s _ _ c.from-residual-in-err-judge.ensures.1
-    (asked-on _ s c.in-ok-fits.ensures.tells ∙ add-fault _ _ (contents s) _ c.in-err-judge.ensures.answer-is-the-first-fault)
+    leave _ s _ _ c.from_residual-in_err-judge.ensures.1
+    (asked-on _ s c.in_ok-fits.ensures.tells ∙ add-fault _ _ (contents s) _ c.in_err-judge.ensures.answer_is_the_first_fault)
 
-pub returns-in-err-few : goal.returns-in-err-few
-returns-in-err-few g c =
+pub returns-in_err-few : goal.returns-in_err-few
+returns-in_err-few g c =
     let s : State = state c.args.self.now c.args.file.now c.args.rows.now c.args.kept.now in
     let ls = g.S.LayoutSet.meaning c.args.set.now in
     let l : List ℕ = c.args.line.now in
-    let count = c.count-lines.result.lines in
-    let counted : count ≡ length (lines_of (used_file s)) = c.count-lines.ensures.lines ∙ front-part (λ f. length (lines_of f)) s.file s.fileUsed in
-    leave _ s _ _ c.from-residual-in-err-few.ensures.1
-    (add-over ls (g.met.S.LayoutSet.lawful c.args.set.now) s c.in-ok-fits.ensures.tells c.in-ok-fits.ensures.fit.0 count counted l _ c.in-ok-judge.ensures.answer-is-the-first-fault _ c.in-err-few.ensures)
+    let count = c.count_lines.result.lines in
+    let counted : count ≡ length (lines_of (used_file s)) = c.count_lines.ensures.lines ∙ front-part (λ f. length (lines_of f)) s.file s.fileUsed in
+    leave _ s _ _ c.from_residual-in_err-few.ensures.1
+    (add-over ls (g.met.S.LayoutSet.lawful c.args.set.now) s c.in_ok-fits.ensures.tells c.in_ok-fits.ensures.fit.0 count counted l _ c.in_ok-judge.ensures.answer_is_the_first_fault _ c.in_err-few.ensures)
 
-pub returns-in-err-room : goal.returns-in-err-room
-returns-in-err-room g c =
+pub returns-in_err-room : goal.returns-in_err-room
+returns-in_err-room g c =
     let s : State = state c.args.self.now c.args.file.now c.args.rows.now c.args.kept.now in
     let ls = g.S.LayoutSet.meaning c.args.set.now in
     let l : List ℕ = c.args.line.now in
-    let count = c.count-lines.result.lines in
-    let counted : count ≡ length (lines_of (used_file s)) = c.count-lines.ensures.lines ∙ front-part (λ f. length (lines_of f)) s.file s.fileUsed in
-    leave _ s _ _ c.from-residual-in-err-room.ensures.1
-    (add-no-room ls (g.met.S.LayoutSet.lawful c.args.set.now) s c.in-ok-fits.ensures.tells c.in-ok-fits.ensures.fit.0 count counted l _ c.in-ok-judge.ensures.answer-is-the-first-fault _ c.in-ok-few.ensures c.in-err-room.ensures.tells)
+    let count = c.count_lines.result.lines in
+    let counted : count ≡ length (lines_of (used_file s)) = c.count_lines.ensures.lines ∙ front-part (λ f. length (lines_of f)) s.file s.fileUsed in
+    leave _ s _ _ c.from_residual-in_err-room.ensures.1
+    (add-no-room ls (g.met.S.LayoutSet.lawful c.args.set.now) s c.in_ok-fits.ensures.tells c.in_ok-fits.ensures.fit.0 count counted l _ c.in_ok-judge.ensures.answer_is_the_first_fault _ c.in_ok-few.ensures c.in_err-room.ensures.tells)
 
 pub returns : goal.returns
 returns g c =
@@ -46,16 +46,16 @@ returns g c =
     let ls = g.S.LayoutSet.meaning c.args.set.now in
     let l : List ℕ = c.args.line.now in
     let crlf : List ℕ = 13 ∷ 10 ∷ [] in
-    let count = c.count-lines.result.lines in
-    let counted : count ≡ length (lines_of (used_file s)) = c.count-lines.ensures.lines ∙ front-part (λ f. length (lines_of f)) s.file s.fileUsed in
-    let fits = c.in-ok-fits.ensures.fit.0 in
+    let count = c.count_lines.result.lines in
+    let counted : count ≡ length (lines_of (used_file s)) = c.count_lines.ensures.lines ∙ front-part (λ f. length (lines_of f)) s.file s.fileUsed in
+    let fits = c.in_ok-fits.ensures.fit.0 in
     let holds : used_file t ≡ used_file s ++ ended l =
     c.append-self.ensures.holds
     ∙ ap (λ x. x ++ crlf) (c.append-end.ensures.holds ∙ ap (λ k. take k s.file ++ l) c.note.ensures.file)
     ∙ append_assoc (used_file s) l crlf in
-    let room = c.in-ok-room.ensures.fit in
+    let room = c.in_ok-room.ensures.fit in
     let counts = c.note.ensures.counts in
     accept _ s t _
-    (add_done ls (g.met.S.LayoutSet.lawful c.args.set.now) s c.in-ok-fits.ensures.tells fits count counted l _ c.in-ok-judge.ensures.answer-is-the-first-fault c.in-ok-few.ensures c.in-ok-room.ensures.tells)
+    (add_done ls (g.met.S.LayoutSet.lawful c.args.set.now) s c.in_ok-fits.ensures.tells fits count counted l _ c.in_ok-judge.ensures.answer_is_the_first_fault c.in_ok-few.ensures c.in_ok-room.ensures.tells)
     (after-change s t 1 0 (used_file s ++ ended l) [] fits holds c.note.ensures.rows c.note.ensures.kept (omega arith) (omega arith) (omega arith))
     (omega arith) (omega arith) (omega arith)

@@ -1,4 +1,4 @@
-use Rattle.std.proofs.Common.{◌≡◌, ℕ, List, [], ◌++◌, length, take, sym, ap, ◌∙◌, arith}
+use Rattle.std.proofs.Common.{◌≡◌, ℕ, List, [], ◌++◌, length, take, ap, ◌∙◌, arith}
 use Rattle.files.specs.Lines.{lines_of}
 use Rattle.changes.specs.States.{State, contents, used_file}
 use Rattle.changes.proofs.CallLaws.{leave, accept, asked-short, asked-on, import-fault, after-change}
@@ -7,37 +7,37 @@ use Rattle.changes.proofs.AtTheEnd.{import-over, import-no-room, import-done}
 use Rattle.drafts.specs.Drafts.{state}
 use Rattle.drafts.proofs.draft.Draft.import.Goals as goal
 
-pub returns-in-err-fits : goal.returns-in-err-fits
-returns-in-err-fits g c =
+pub returns-in_err-fits : goal.returns-in_err-fits
+returns-in_err-fits g c =
     let s : State = state c.args.self.now c.args.file.now c.args.rows.now c.args.kept.now in
-    leave _ s _ _ c.from-residual.ensures.1 (asked-short _ s _ c.in-err-fits.ensures.tells)
+    leave _ s _ _ c.from_residual.ensures.1 (asked-short _ s _ c.in_err-fits.ensures.tells)
 
-pub returns-in-err-more : goal.returns-in-err-more
-returns-in-err-more g c =
+pub returns-in_err-more : goal.returns-in_err-more
+returns-in_err-more g c =
     let s : State = state c.args.self.now c.args.file.now c.args.rows.now c.args.kept.now in
-    leave _ s _ _ c.from-residual-in-err-more.ensures.1 (asked-on _ s c.in-ok-fits.ensures.tells ∙ import-fault _ _ (contents s) _ c.in-err-more.ensures)
+    leave _ s _ _ c.from_residual-in_err-more.ensures.1 (asked-on _ s c.in_ok-fits.ensures.tells ∙ import-fault _ _ (contents s) _ c.in_err-more.ensures)
 
-pub returns-in-err-few : goal.returns-in-err-few
-returns-in-err-few g c =
+pub returns-in_err-few : goal.returns-in_err-few
+returns-in_err-few g c =
     let s : State = state c.args.self.now c.args.file.now c.args.rows.now c.args.kept.now in
     let ls = g.S.LayoutSet.meaning c.args.set.now in
     let d : List ℕ = c.args.delivery.now in
-    let n = c.in-ok-more.more in
-    let count = c.count-lines.result.lines in
-    let counted : count ≡ length (lines_of (used_file s)) = c.count-lines.ensures.lines ∙ front-part (λ f. length (lines_of f)) s.file s.fileUsed in
-    leave _ s _ _ c.from-residual-in-err-few.ensures.1
-    (import-over ls (g.met.S.LayoutSet.lawful c.args.set.now) s c.in-ok-fits.ensures.tells c.in-ok-fits.ensures.fit.0 count counted d n c.in-ok-more.ensures _ c.in-err-few.ensures)
+    let n = c.in_ok-more.more in
+    let count = c.count_lines.result.lines in
+    let counted : count ≡ length (lines_of (used_file s)) = c.count_lines.ensures.lines ∙ front-part (λ f. length (lines_of f)) s.file s.fileUsed in
+    leave _ s _ _ c.from_residual-in_err-few.ensures.1
+    (import-over ls (g.met.S.LayoutSet.lawful c.args.set.now) s c.in_ok-fits.ensures.tells c.in_ok-fits.ensures.fit.0 count counted d n c.in_ok-more.ensures _ c.in_err-few.ensures)
 
-pub returns-in-err-room : goal.returns-in-err-room
-returns-in-err-room g c =
+pub returns-in_err-room : goal.returns-in_err-room
+returns-in_err-room g c =
     let s : State = state c.args.self.now c.args.file.now c.args.rows.now c.args.kept.now in
     let ls = g.S.LayoutSet.meaning c.args.set.now in
     let d : List ℕ = c.args.delivery.now in
-    let n = c.in-ok-more.more in
-    let count = c.count-lines.result.lines in
-    let counted : count ≡ length (lines_of (used_file s)) = c.count-lines.ensures.lines ∙ front-part (λ f. length (lines_of f)) s.file s.fileUsed in
-    leave _ s _ _ c.from-residual-in-err-room.ensures.1
-    (import-no-room ls (g.met.S.LayoutSet.lawful c.args.set.now) s c.in-ok-fits.ensures.tells c.in-ok-fits.ensures.fit.0 count counted d n c.in-ok-more.ensures _ c.in-ok-few.ensures c.in-err-room.ensures.tells)
+    let n = c.in_ok-more.more in
+    let count = c.count_lines.result.lines in
+    let counted : count ≡ length (lines_of (used_file s)) = c.count_lines.ensures.lines ∙ front-part (λ f. length (lines_of f)) s.file s.fileUsed in
+    leave _ s _ _ c.from_residual-in_err-room.ensures.1
+    (import-no-room ls (g.met.S.LayoutSet.lawful c.args.set.now) s c.in_ok-fits.ensures.tells c.in_ok-fits.ensures.fit.0 count counted d n c.in_ok-more.ensures _ c.in_ok-few.ensures c.in_err-room.ensures.tells)
 
 pub returns : goal.returns
 returns g c =
@@ -45,14 +45,14 @@ returns g c =
     let t : State = state (record { file = c.append-self.result; rows = c.note.new.self.rows; kept = c.note.new.self.kept }) c.append-self.new.memory c.note.new.rows c.note.new.kept in
     let ls = g.S.LayoutSet.meaning c.args.set.now in
     let d : List ℕ = c.args.delivery.now in
-    let n = c.in-ok-more.more in
-    let count = c.count-lines.result.lines in
-    let counted : count ≡ length (lines_of (used_file s)) = c.count-lines.ensures.lines ∙ front-part (λ f. length (lines_of f)) s.file s.fileUsed in
-    let fits = c.in-ok-fits.ensures.fit.0 in
+    let n = c.in_ok-more.more in
+    let count = c.count_lines.result.lines in
+    let counted : count ≡ length (lines_of (used_file s)) = c.count_lines.ensures.lines ∙ front-part (λ f. length (lines_of f)) s.file s.fileUsed in
+    let fits = c.in_ok-fits.ensures.fit.0 in
     let holds : used_file t ≡ used_file s ++ d = c.append-self.ensures.holds ∙ ap (λ k. take k s.file ++ d) c.note.ensures.file in
-    let room = c.in-ok-room.ensures.fit in
+    let room = c.in_ok-room.ensures.fit in
     let counts = c.note.ensures.counts in
     accept _ s t _
-    (import-done ls (g.met.S.LayoutSet.lawful c.args.set.now) s c.in-ok-fits.ensures.tells fits count counted d n c.in-ok-more.ensures c.in-ok-few.ensures c.in-ok-room.ensures.tells)
+    (import-done ls (g.met.S.LayoutSet.lawful c.args.set.now) s c.in_ok-fits.ensures.tells fits count counted d n c.in_ok-more.ensures c.in_ok-few.ensures c.in_ok-room.ensures.tells)
     (after-change s t 1 0 (used_file s ++ d) [] fits holds c.note.ensures.rows c.note.ensures.kept (omega arith) (omega arith) (omega arith))
     (omega arith) (omega arith) (omega arith)
