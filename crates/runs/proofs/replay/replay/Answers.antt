@@ -12,7 +12,7 @@ use Rattle.runs.specs.Calls.{act_of}
 use Rattle.runs.specs.Replays.{new_draft, accepted_of}
 use Rattle.runs.proofs.Counting.{accepted-more}
 use Rattle.runs.proofs.replay.replay.Goals as goal
-use Rattle.runs.proofs.replay.replay.Goals.{then-is-ok, else-is-ok}
+use Rattle.runs.proofs.replay.replay.Goals.{then-is_ok, else-is_ok}
 
 pub loop-call-preserved : goal.loop-call-preserved
 loop-call-preserved g c =
@@ -29,13 +29,13 @@ loop-call-preserved g c =
     let a : Act = act_of (get_or calls i d) in
     let p : Step = record { act = a; answer = c.play.result } in
     let kept : Promise (asked (called ls a) t) t u c.play.result = c.play.ensures in
-    let one : c.if-is-ok.accepted ≡ c.loop-call.accepted + cond (is_ok c.play.result) 1 0 =
-    elim c.if-is-ok.branch [
-      | then-is-ok w ↦ w.accepted-is ∙ ap (λ b. c.loop-call.accepted + cond b 1 0) (sym w.if-is-ok.true ∙ c.is-ok.ensures.value)
-      | else-is-ok w ↦ w.accepted-is ∙ omega arith ∙ ap (λ b. c.loop-call.accepted + cond b 1 0) (sym w.if-is-ok.false ∙ c.is-ok.ensures.value)
+    let one : c.if-is_ok.accepted ≡ c.loop-call.accepted + cond (is_ok c.play.result) 1 0 =
+    elim c.if-is_ok.branch [
+      | then-is_ok w ↦ w.accepted-is ∙ ap (λ b. c.loop-call.accepted + cond b 1 0) (sym w.if-is_ok.true ∙ c.is_ok.ensures.value)
+      | else-is_ok w ↦ w.accepted-is ∙ omega arith ∙ ap (λ b. c.loop-call.accepted + cond b 1 0) (sym w.if-is_ok.false ∙ c.is_ok.ensures.value)
     ] in
-    let more : c.if-is-ok.accepted ≤ i + 1 =
-    elim c.if-is-ok.branch [ then-is-ok w ↦ omega (arith, w.accepted-is) | else-is-ok w ↦ omega (arith, w.accepted-is) ] in (
+    let more : c.if-is_ok.accepted ≤ i + 1 =
+    elim c.if-is_ok.branch [ then-is_ok w ↦ omega (arith, w.accepted-is) | else-is_ok w ↦ omega (arith, w.accepted-is) ] in (
       more,
       (
         ps ++ p ∷ [],
@@ -52,15 +52,15 @@ returns g c =
     let t : State = state c.loop-call.draft c.loop-call.file c.loop-call.rows c.loop-call.kept in
     let every = law (g.S.LayoutSet.meaning c.args.set.now) (g.met.S.LayoutSet.lawful c.args.set.now) in
     record {
-      plays-the-calls-in-their-order = record {
+      plays_the_calls_in_their_order = record {
         steps = h.0;
         in_order = h.1 ∙ ap (map act_of) (take_all c.loop-call.call-index c.args.calls.now c.loop-call-test.false);
         run = h.2;
         count = h.3;
         law = every s t h.0 (refl, refl, refl) h.2;
       };
-      used-bytes-are-the-last-file = λ x y ps new run. (every x y ps new run).last;
-      they-are-the-writing-of-one-list-of-records = λ x y ps new run. (every x y ps new run).writing;
-      amounts-are-what-came-in-less-what-went-out = λ x y ps new run. (every x y ps new run).balance;
-      undo-leads-back-through-every-file = λ x y ps new run. (every x y ps new run).back;
+      used_bytes_are_the_last_file = λ x y ps new run. (every x y ps new run).last;
+      they_are_the_writing_of_one_list_of_records = λ x y ps new run. (every x y ps new run).writing;
+      amounts_are_what_came_in_less_what_went_out = λ x y ps new run. (every x y ps new run).balance;
+      undo_leads_back_through_every_file = λ x y ps new run. (every x y ps new run).back;
     }

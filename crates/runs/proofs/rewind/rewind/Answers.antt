@@ -7,8 +7,8 @@ use Rattle.history.proofs.Shrinking.{undo-shrinks}
 use Rattle.runs.proofs.Bounding.{first-or-later}
 use Rattle.runs.proofs.rewind.rewind.Goals as goal
 
-pub overflow-add-undone : goal.overflow-add-undone
-overflow-add-undone c =
+pub overflow_add-undone : goal.overflow_add-undone
+overflow_add-undone c =
     let t : State = state c.loop-undone.draft c.loop-undone.file c.args.rows.now c.args.kept.now in
     let u : State = state c.undo.new.self c.undo.new.file c.args.rows.now c.args.kept.now in
     let h = c.loop-undone.invariant in
@@ -49,4 +49,4 @@ returns-in-Err c =
     let u : State = state c.undo.new.self c.undo.new.file c.args.rows.now c.args.kept.now in
     let h = c.loop-undone.invariant in
     let until = until-refused s t u h.0 c.loop-undone.undone c.in-Err.refusal h.1 h.2 c.in-Err.ensures in
-    record { undoes-until-it-is-refused = until; undoes-every-standing-change = rewound s u c.loop-undone.undone c.in-Err.refusal until }
+    record { undoes_until_it_is_refused = until; undoes_every_standing_change = rewound s u c.loop-undone.undone c.in-Err.refusal until }
