@@ -1,6 +1,7 @@
 // The month end of a clerk: a delivery is put right, imported into a draft, changed and sealed.
 // The delivery is read from standard input.
 #![tactic(auto)]
+
 mod correcting;
 mod desk;
 mod importing;

@@ -5,8 +5,8 @@
 mod fields;
 mod names;
 mod own_set;
+mod record_values;
 mod shown;
-mod values;
 
 use crate::fields::{extent, tell_value};
 use crate::names::name_of;
@@ -71,6 +71,6 @@ fn main(rt: HostRuntime) -> io::Result<()> {
         tell_line(rt, &line)?;
         line[60] = b'D';
     }
-    values::change_the_amount(rt, &line)?;
+    record_values::change_the_amount(rt, &line)?;
     own_set::judge_with_an_own_set(rt)
 }

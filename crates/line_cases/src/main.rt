@@ -4,9 +4,9 @@
 
 mod built_lines;
 mod cases;
-mod files;
+mod record_values;
 mod tiny;
-mod values;
+mod whole_files;
 
 use std::io;
 
@@ -16,13 +16,13 @@ fn main(rt: HostRuntime) -> io::Result<()> {
     cases::text_bytes(rt)?;
     cases::prefixes(rt)?;
     built_lines::smallest_and_largest(rt)?;
-    files::reports(rt)?;
-    files::surveys(rt)?;
-    values::rows_of_a_short_line(rt)?;
-    values::refused_rows(rt)?;
-    values::refused_texts(rt)?;
-    values::refused_blocks(rt)?;
-    values::blank_line_in_a_block(rt)?;
-    values::equality(rt)?;
-    values::round_trips(rt)
+    whole_files::reports(rt)?;
+    whole_files::surveys(rt)?;
+    record_values::rows_of_a_short_line(rt)?;
+    record_values::refused_rows(rt)?;
+    record_values::refused_texts(rt)?;
+    record_values::refused_blocks(rt)?;
+    record_values::blank_line_in_a_block(rt)?;
+    record_values::equality(rt)?;
+    record_values::round_trips(rt)
 }

@@ -3,7 +3,6 @@ ghost use Rattle.std.specs.Prelude.{◌≡◌, true, [], ◌∷◌, IfOk};
 ghost use Rattle.layouts.specs.Layouts.{layout_at, is_lawful};
 ghost use Rattle.layouts.specs.Tables.{payment};
 ghost use Rattle.strips.specs.Layers.{layouts_of};
-ghost use Rattle.std.proofs.Common.{rules, arith};
 
 use layouts::built_in::{BuiltIn, field_at};
 use layouts::field::Field;
@@ -45,7 +44,7 @@ impl LoadedSet {
 impl LayoutSet for LoadedSet {
     ghost meaning = { λ s. layouts_of s.layouts };
 
-    ghost lawful = { first_of (Prim.search rules, Prim.grind (arith, Self.row.coded.inj)) };
+    ghost lawful = { λ s. s.lawful };
 
     fn layouts(&self) -> usize {
         self.layouts.len()
