@@ -1,6 +1,7 @@
 // Makes calls on drafts whose answers the rules settle, and prints what came. The expected output
 // beside this program was written from the rules.
 #![tactic(auto)]
+
 mod chance;
 mod desk;
 mod foreign_rows;

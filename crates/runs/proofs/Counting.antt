@@ -1,5 +1,5 @@
 -- How many calls of a run were accepted, with one call more.
-use Rattle.std.proofs.Common.{◌≡◌, ℕ, ◌+◌, cond, List, [], ◌∷◌, ◌++◌, is_ok, sym, ap, ◌∙◌, add-zero, add_assoc, zero-add}
+use Rattle.std.proofs.Common.{◌≡◌, ◌+◌, cond, List, [], ◌∷◌, ◌++◌, is_ok, sym, ap, ◌∙◌, add-zero, add_assoc, zero-add}
 use Rattle.history.specs.Runs.{Step, events}
 use Rattle.runs.specs.Replays.{accepted_of}
 

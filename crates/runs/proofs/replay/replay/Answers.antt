@@ -1,15 +1,15 @@
-use Rattle.std.proofs.Common.{◌≡◌, ℕ, ◌+◌, ◌≤◌, Bool, true, false, cond, List, [], ◌∷◌, ◌++◌, map, get_or, take, is_ok, sym, refl, ap, ◌∙◌, arith, take_all}
+use Rattle.std.proofs.Common.{◌≡◌, ℕ, ◌+◌, ◌≤◌, cond, List, [], ◌∷◌, ◌++◌, map, get_or, is_ok, sym, refl, ap, ◌∙◌, arith, take_all}
 use Rattle.std.proofs.lemmas.List.{map_push, map_more}
 use Rattle.changes.specs.States.{State, Promise}
 use Rattle.changes.specs.Calls.{asked}
 use Rattle.drafts.specs.Drafts.{state}
 use Rattle.history.specs.Acts.{Act}
-use Rattle.history.specs.Runs.{Step, events, called}
+use Rattle.history.specs.Runs.{Step, called}
 use Rattle.history.proofs.Theorem.{law, run_more}
 use Rattle.runs.specs.declared.call.Call.{Call}
 use Rattle.runs.specs.declared.call.Call.TheVariants.{Import}
 use Rattle.runs.specs.Calls.{act_of}
-use Rattle.runs.specs.Replays.{new_draft, accepted_of}
+use Rattle.runs.specs.Replays.{new_draft}
 use Rattle.runs.proofs.Counting.{accepted-more}
 use Rattle.runs.proofs.replay.replay.Goals as goal
 use Rattle.runs.proofs.replay.replay.Goals.{then-is_ok, else-is_ok}

@@ -1,4 +1,4 @@
-use Rattle.std.proofs.Common.{◌≡◌, ◌+◌, [], ◌∷◌, ◌++◌, length, ap, ◌∙◌, arith, length-append}
+use Rattle.std.proofs.Common.{◌+◌, [], ◌∷◌, ◌++◌, length, ap, ◌∙◌, arith, length-append}
 use Rattle.changes.specs.States.{State, used_file}
 use Rattle.drafts.specs.Drafts.{state}
 use Rattle.history.proofs.Theorem.{undone-more, rewound}
