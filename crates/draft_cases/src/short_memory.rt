@@ -60,49 +60,20 @@ fn calls_with_none(rt: HostRuntime, set: &LoadedSet) -> io::Result<()> {
     Ok(())
 }
 
+// How many file bytes, rows and kept bytes are lent: too few of one of them, just enough, and more.
+const LENT: [(&str, usize, usize, usize); 5] = [
+    ("With 55 of 56 file bytes", 55, 6, 80),
+    ("With 1 of 2 rows", 140, 1, 80),
+    ("With 25 of 26 kept bytes", 140, 6, 25),
+    ("With 56 file bytes, 2 rows and 26 kept bytes", 56, 2, 26),
+    ("With all memory", 140, 6, 80),
+];
+
 pub(crate) fn short_memory(rt: HostRuntime, set: &LoadedSet) -> io::Result<()> {
-    let file = 140;
-    let rows = 6;
-    let kept = 80;
-    println!(rt; "With 55 of 56 file bytes")?;
-    calls_with(
-        rt,
-        set,
-        Sizes {
-            file: 55,
-            rows,
-            kept,
-        },
-    )?;
-    println!(rt; "With 1 of 2 rows")?;
-    calls_with(
-        rt,
-        set,
-        Sizes {
-            file,
-            rows: 1,
-            kept,
-        },
-    )?;
-    println!(rt; "With 25 of 26 kept bytes")?;
-    calls_with(
-        rt,
-        set,
-        Sizes {
-            file,
-            rows,
-            kept: 25,
-        },
-    )?;
-    println!(rt; "With 56 file bytes, 2 rows and 26 kept bytes")?;
-    let lent = Sizes {
-        file: 56,
-        rows: 2,
-        kept: 26,
-    };
-    calls_with(rt, set, lent)?;
-    println!(rt; "With all memory")?;
-    calls_with(rt, set, Sizes { file, rows, kept })?;
+    for (what, file, rows, kept) in LENT {
+        println!(rt; "{what}")?;
+        calls_with(rt, set, Sizes { file, rows, kept })?;
+    }
     println!(rt; "A new draft with no memory")?;
     calls_with_none(rt, set)?;
     let desk = second_struck(rt.alloc(), set)?;
