@@ -62,6 +62,9 @@ def main():
             new = snake(name)
             if new != name:
                 turned[name] = new
+    if not turned:
+        print("every name is in snake case")
+        return 0
     # a lemma that would get the name of its function is set apart
     set_apart = {s: s + "_lem" for s in turned.values() if s in found and s not in turned}
     clash = [n for n, s in turned.items() if list(turned.values()).count(s) > 1 or s + "_lem" in found]
