@@ -1,22 +1,7 @@
 -- Laws of the first byte that may not stand where it does.
-use Rattle.std.proofs.Common.{◌≡◌, ℕ, zero, suc, ◌+◌, ◌<◌, ◌≤◌, Bool, true, false, cond, not, ◌&&◌, List, [], ◌∷◌, length, get_or, drop, is_some, Some, None, Option, sym, refl, ap, ◌∙◌, subst, add-zero, zero-add, arith}
-use Rattle.std.proofs.lemmas.List.{drop_more, drop_all}
+use Rattle.std.proofs.Common.{◌≡◌, ℕ, zero, suc, ◌+◌, ◌<◌, Bool, true, false, cond, not, ◌&&◌, List, [], ◌∷◌, length, get_or, is_some, Some, None, Option, sym, refl, ap, ◌∙◌, subst, add-zero, zero-add, arith}
 use Rattle.std.proofs.lemmas.Bool.{and_parts, and_from}
 use Rattle.basics.specs.Bytes.{all, anywhere, first_forbidden}
-
--- one turn of a loop over the bytes
-module _ (ok : ℕ → ℕ → Bool) (s : List ℕ) (k : ℕ) where
-  turn : k < length s → first_forbidden ok k (drop k s) ≡ cond (ok k (get_or s k 0)) (first_forbidden ok (k + 1) (drop (k + 1) s)) (Some k)
-  turn h = ap (first_forbidden ok k) (drop_more s k 0 h)
-
-  pub forbidden-more : k < length s → ok k (get_or s k 0) ≡ true → first_forbidden ok k (drop k s) ≡ first_forbidden ok (k + 1) (drop (k + 1) s)
-  forbidden-more h a = turn h ∙ ap (λ t. cond t (first_forbidden ok (k + 1) (drop (k + 1) s)) (Some k)) a
-
-  pub forbidden-here : k < length s → ok k (get_or s k 0) ≡ false → first_forbidden ok k (drop k s) ≡ Some k
-  forbidden-here h a = turn h ∙ ap (λ t. cond t (first_forbidden ok (k + 1) (drop (k + 1) s)) (Some k)) a
-
-  pub forbidden-none : length s ≤ k → first_forbidden ok k (drop k s) ≡ None
-  forbidden-none h = ap (first_forbidden ok k) (drop_all k s h)
 
 pub absurd-none : {A B : Type 0} {x : A} → ◌≡◌ {A = Option A} None (Some x) → B
 absurd-none e = absurd (let z : ◌≡◌ {A = ℕ} 0 1 = cc in omega arith)
@@ -113,16 +98,6 @@ none-all ok k (b ∷ bs) e =
     [ true ↦ λ h. none-all ok (k + 1) bs h | false ↦ λ h. absurd-none (sym h) ]
     e
 
-pub all_none : (ok : ℕ → Bool) (k : ℕ) (s : List ℕ) → all ok s ≡ true → first_forbidden (anywhere ok) k s ≡ None
-all_none ok k [] e = refl
-all_none ok k (b ∷ bs) e =
-    let both = and_parts (ok b) (all ok bs) e in
-    ap (λ t. cond t (first_forbidden (anywhere ok) (k + 1) bs) (Some k)) both.0 ∙ all_none ok (k + 1) bs both.1
-
-pub some-not-all : (ok : ℕ → Bool) (k : ℕ) (s : List ℕ) (m : ℕ) → first_forbidden (anywhere ok) k s ≡ Some m → all ok s ≡ false
-some-not-all ok k s m e =
-    elim (all ok s) as (λ t. all ok s ≡ t → t ≡ false) [ true ↦ λ a. absurd-none (sym (all_none ok k s a) ∙ e) | false ↦ λ a. refl ] refl
-
 pub all-at : (ok : ℕ → Bool) (s : List ℕ) (j : ℕ) → all ok s ≡ true → j < length s → ok (get_or s j 0) ≡ true
 all-at ok [] j e h = absurd (omega arith)
 all-at ok (b ∷ bs) zero e h = (and_parts (ok b) (all ok bs) e).0
@@ -131,16 +106,6 @@ all-at ok (b ∷ bs) (suc j) e h = all-at ok bs j (and_parts (ok b) (all ok bs) 
 pub at_all : (ok : ℕ → Bool) (s : List ℕ) → ((j : ℕ) → j < length s → ok (get_or s j 0) ≡ true) → all ok s ≡ true
 at_all ok [] h = refl
 at_all ok (b ∷ bs) h = and_from (ok b) (all ok bs) (h 0 (omega arith)) (at_all ok bs (λ j l. h (suc j) (omega arith)))
-
--- one turn of a loop that looks at every byte
-pub all_more : (ok : ℕ → Bool) (s : List ℕ) (k : ℕ) → k < length s → ok (get_or s k 0) ≡ true → all ok (drop k s) ≡ all ok (drop (k + 1) s)
-all_more ok s k h a = ap (all ok) (drop_more s k 0 h) ∙ ap (λ t. t && all ok (drop (k + 1) s)) a
-
-pub all-bad : (ok : ℕ → Bool) (s : List ℕ) (k : ℕ) → k < length s → ok (get_or s k 0) ≡ false → all ok (drop k s) ≡ false
-all-bad ok s k h a = ap (all ok) (drop_more s k 0 h) ∙ ap (λ t. t && all ok (drop (k + 1) s)) a
-
-pub all_end : (ok : ℕ → Bool) (s : List ℕ) (k : ℕ) → length s ≤ k → all ok (drop k s) ≡ true
-all_end ok s k h = ap (all ok) (drop_all k s h)
 
 -- no byte is forbidden exactly if all pass
 pub forbidden-test : (ok : ℕ → Bool) (k : ℕ) (s : List ℕ) → is_some (first_forbidden (anywhere ok) k s) ≡ not (all ok s)

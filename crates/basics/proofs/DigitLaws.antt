@@ -1,13 +1,11 @@
 -- Laws of numbers in digits.
-use Rattle.std.proofs.Common.{◌≡◌, ℕ, zero, suc, ◌+◌, ◌-◌, ◌*◌, ◌/◌, ◌%◌, ◌^◌, ◌<◌, ◌≤◌, true, false, cond, ◌&&◌, leb, List, [], ◌∷◌, ◌++◌, length, get_or, drop, set, Some, None, sym, refl, ap, ◌∙◌, append_assoc, append-nil, add-zero, mul-le-mul_right, mul_assoc, pow-suc, div-add-mod', zero-add, add-one, arith, lit<, length-append}
+use Rattle.std.proofs.Common.{◌≡◌, ℕ, zero, suc, ◌+◌, ◌-◌, ◌*◌, ◌/◌, ◌%◌, ◌^◌, ◌<◌, ◌≤◌, true, cond, ◌&&◌, leb, List, [], ◌∷◌, ◌++◌, length, Some, None, sym, refl, ap, ◌∙◌, append_assoc, append-nil, add-zero, mul-le-mul_right, mul_assoc, pow-suc, div-add-mod', zero-add, arith, lit<, length-append}
 use native.Mathlib.Nat.{pow-zero, pow-succ', pow-le-pow_right}
 use Rattle.std.proofs.lemmas.Nat.{div-mul-add, mod-mul-add, div_below, mod_below}
-use Rattle.std.proofs.lemmas.List.{drop-set, drop_more, drop_all}
-use Rattle.std.proofs.lemmas.Bool.{and_parts, and_from, leb-true, le-leb, lt-leb}
+use Rattle.std.proofs.lemmas.Bool.{and_parts, and_from, leb-true, le-leb}
 use Rattle.basics.specs.declared.bytes.ByteClass.TheVariants.{Digit}
 use Rattle.basics.specs.Bytes.{allowed, all}
 use Rattle.basics.specs.Decimals.{number_from, number_of, value_of, digits}
-use Rattle.basics.proofs.ByteLaws.{all-at}
 
 -- every byte is a digit
 abbrev pub Digits : List ℕ → Type 0
@@ -18,9 +16,6 @@ digit-is b e = let both = and_parts (leb 48 b) (leb b 57) e in (leb-true 48 b bo
 
 pub is_digit : (b : ℕ) → 48 ≤ b → b ≤ 57 → allowed Digit b ≡ true
 is_digit b l h = and_from (leb 48 b) (leb b 57) (le-leb 48 b l) (le-leb b 57 h)
-
-pub digit_at : (s : List ℕ) (k : ℕ) → Digits s → k < length s → (48 ≤ get_or s k 0) × (get_or s k 0 ≤ 57)
-digit_at s k e h = digit-is (get_or s k 0) (all-at (allowed Digit) s k e h)
 
 number_from-push : (n : ℕ) (bs : List ℕ) (b : ℕ) → number_from n (bs ++ (b ∷ [])) ≡ number_from n bs * 10 + (b - 48)
 number_from-push n [] b = refl
@@ -83,34 +78,10 @@ number_from-lt (b ∷ bs) n h =
 pub number_lt : (bs : List ℕ) → Digits bs → number_of bs < 10 ^ length bs
 number_lt bs h = omega (arith, number_from-lt bs 0 h)
 
--- one place more on the left of what is written from the right
-pub digits_step : (i n : ℕ) (out : List ℕ) → i < length out → digits i (n / 10) ++ drop i (set out i (48 + n % 10)) ≡ digits (i + 1) n ++ drop (i + 1) out
-digits_step i n out h =
-    ap (λ x. digits i (n / 10) ++ x) (drop-set out i (48 + n % 10) h)
-    ∙ sym (append_assoc (digits i (n / 10)) ((48 + n % 10) ∷ []) (drop (i + 1) out))
-    ∙ ap (λ k. digits k n ++ drop (i + 1) out) (sym (add-one i))
-
--- one turn of a loop that reads a number: one digit more
-pub grow : (n k d : ℕ) → n < 10 ^ k → d ≤ 9 → n * 10 + d < 10 ^ (k + 1)
-grow n k d h l = let e : 10 ^ (k + 1) ≡ 10 * 10 ^ k = ap (λ m. 10 ^ m) (add-one k) ∙ pow-succ' 10 k in omega arith
-
 pub fits : (n k d : ℕ) → n < 10 ^ k → k < 19 → d ≤ 9 → n * 10 + d < 2 ^ 64
 fits n k d h l m = let b : 10 ^ k ≤ 10 ^ 18 = pow-le-pow_right {n = 10} (lit< tt) {i = k} {j = 18} (omega arith) in omega arith
 
-pub number_more : (n : ℕ) (s : List ℕ) (k : ℕ) → k < length s → number_from n (drop k s) ≡ number_from (n * 10 + (get_or s k 0 - 48)) (drop (k + 1) s)
-number_more n s k h = ap (number_from n) (drop_more s k 0 h)
-
-pub number-end : (n : ℕ) (s : List ℕ) (k : ℕ) → length s ≤ k → number_from n (drop k s) ≡ n
-number-end n s k h = ap (number_from n) (drop_all k s h)
-
--- the value of bytes: they are too many, one is no digit, or they show a number
-pub value-long : (s : List ℕ) → 19 < length s → value_of s ≡ None
-value-long s h = ap (λ t. cond (t && all (allowed Digit) s) (Some (number_of s)) None) (lt-leb (length s) 19 h)
-
-pub value-bad : (s : List ℕ) → length s ≤ 19 → all (allowed Digit) s ≡ false → value_of s ≡ None
-value-bad s h e =
-    ap (λ t. cond (t && all (allowed Digit) s) (Some (number_of s)) None) (le-leb (length s) 19 h) ∙ ap (λ t. cond t (Some (number_of s)) None) e
-
+-- the value of at most 19 digits
 pub value-some : (s : List ℕ) → length s ≤ 19 → Digits s → value_of s ≡ Some (number_of s)
 value-some s h e =
     ap (λ t. cond (t && all (allowed Digit) s) (Some (number_of s)) None) (le-leb (length s) 19 h) ∙ ap (λ t. cond t (Some (number_of s)) None) e

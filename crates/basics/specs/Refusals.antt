@@ -1,5 +1,6 @@
 -- Refusals by their numbers: the links between the cases of the code's enums and the rules' numbers.
-use Rattle.std.specs.Prelude.{ℕ, cond, ◌==◌}
+use Rattle.std.specs.Prelude.{ℕ, cond, List, ◌++◌, ◌==◌, codes}
+use Rattle.std.specs.Fmt.{decimal}
 use Rattle.basics.specs.declared.refusal.Reason.{Reason}
 use Rattle.basics.specs.declared.refusal.Reason.TheVariants.{NoStrips, UnknownKind, FirstKindNotRecord, BodyCutShort, BodyBreaksItsRule, UnlawfulLayout, DigitsUsedBefore, TooManyLayouts, LineEndsEarly, UnknownRecord, ForbiddenByte, BlankText, OutOfBounds, NoSuchDay, AmountZero, BytesLeftOver, EmptyFile, UnendedLine, TooManyLines, TooFewValueRows, MemoryShorterThanUsed, NoSuchLine, DraftTooLong, NoFileRoom, NoChangeRoom, NothingToUndo, RowDoesNotFit, NothingToSeal, NotACurrency, UnknownDigits, RowsRunOut, ValueBreaksItsField, RowsLeft, NoRoom}
 use Rattle.basics.specs.declared.refusal.Layer.{Layer}
@@ -92,3 +93,8 @@ layer n = cond (n == 1) Strips (cond (n == 2) Lines (cond (n == 3) Files Drafts)
 -- the refusal of number n in layer l, at this line, field and byte
 abbrev pub refusal : ℕ → ℕ → ℕ → ℕ → ℕ → Refusal
 refusal n l i f b = record { reason = reason n; layer = layer l; line = i; field = f; byte = b }
+
+-- what a refusal is printed as: its number, layer, line, field and byte in decimal digits
+abbrev pub in_words : Refusal → List ℕ
+in_words e =
+    decimal (number e.reason) ++ (codes " layer " ++ (decimal (depth e.layer) ++ (codes " line " ++ (decimal e.line ++ (codes " field " ++ (decimal e.field ++ (codes " byte " ++ decimal e.byte)))))))

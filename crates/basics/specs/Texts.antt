@@ -1,5 +1,7 @@
 -- Texts with blanks behind them.
 use Rattle.std.specs.Prelude.{ℕ, cond, List, [], ◌∷◌, ◌==◌}
+use Rattle.std.specs.Char.{encode_utf8}
+use Rattle.std.specs.List.{flat_map}
 
 -- b in front of a text: a blank in front of nothing is no text
 abbrev pub front : ℕ → List ℕ → List ℕ
@@ -10,3 +12,7 @@ front b (x ∷ xs) = b ∷ x ∷ xs
 abbrev pub trim : List ℕ → List ℕ
 trim [] = []
 trim (b ∷ bs) = front b (trim bs)
+
+-- bytes as text: each is the character of its number
+abbrev pub as_characters : List ℕ → List ℕ
+as_characters bs = flat_map encode_utf8 bs

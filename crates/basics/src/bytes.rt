@@ -2,7 +2,8 @@
 ghost use Rattle.std.specs.Prelude.{◌≡◌};
 ghost use Rattle.basics.specs.Bytes.{allowed, anywhere, first_forbidden};
 
-// The bytes that one kind of part allows.
+// The bytes that one kind of part allows. An enum, and no closure: contracts and definitions name
+// the classes.
 #[derive(Clone, Copy, Debug, PartialEq, Eq)]
 pub enum ByteClass {
     Digit,
@@ -30,7 +31,7 @@ pub fn allows(class: ByteClass, b: u8) -> bool
     }
 }
 
-// The index of the first byte that the class has not.
+// The index of the first byte that the class has not. By rule a loop over the bytes with their index.
 pub fn first_forbidden(class: ByteClass, part: &[u8]) -> Option<usize>
     ensures { result ≡ first_forbidden (anywhere (allowed class)) 0 part.now }
 {

@@ -33,7 +33,7 @@ fn is_day(number: u64) -> bool
 }
 
 // A day of the calendar. No other number can be one: `new` is the only way in.
-#[derive(Clone, Copy)]
+#[derive(Clone, Copy, Debug, PartialEq, Eq, PartialOrd, Ord)]
 pub struct Day {
     number: u64,
     ghost exists: { is_day number ≡ true },

@@ -26,10 +26,18 @@ pub fn put(out: &mut [u8], n: u64)
     ensures { out.new ≡ digits (length out.old) n }
 {
     let mut rest = n;
-    let mut i = out.len();
-    while i > 0 {
-        i -= 1;
+    // By index: with `iter_mut().rev()` the proof did not close.
+    for i in (0..out.len()).rev() {
         out[i] = b'0' + (rest % 10) as u8;
         rest /= 10;
     }
+}
+
+// The last W digits of the number.
+pub fn last_digits<const W: usize>(n: u64) -> [u8; W]
+    ensures { result ≡ digits W n }
+{
+    let mut out = [b'0'; W];
+    put(&mut out, n);
+    out
 }

@@ -1,12 +1,13 @@
 // Amounts and currencies.
-ghost use Rattle.std.specs.Prelude.{◌≡◌, true, false, MatchOption};
-ghost use Rattle.basics.specs.Money.{is_amount, is_currency};
+ghost use Rattle.std.specs.Prelude.{◌≡◌, true, false, Some, MatchOption};
+ghost use Rattle.basics.specs.Money.{is_amount, is_currency, with_point};
 
 use crate::bytes::{ByteClass, first_forbidden};
+use std::fmt;
 
 // An amount in hundredths, from 1 to 999,999,999,999,999. No other number can be one: `new` is the
 // only way in.
-#[derive(Clone, Copy)]
+#[derive(Clone, Copy, Debug, PartialEq, Eq, PartialOrd, Ord)]
 pub struct Amount {
     hundredths: u64,
     ghost payable: { is_amount hundredths ≡ true },
@@ -34,7 +35,7 @@ impl Amount {
 }
 
 // A currency: three capital letters. No other bytes can be one: `new` is the only way in.
-#[derive(Clone, Copy)]
+#[derive(Clone, Copy, Debug, PartialEq, Eq)]
 pub struct Currency {
     letters: [u8; 3],
     ghost capitals: { is_currency letters ≡ true },
@@ -45,15 +46,11 @@ impl Currency {
     pub fn new(bytes: &[u8]) -> Option<Currency>
         ensures { MatchOption result (is_currency bytes.now ≡ false) (λ c. (is_currency bytes.now ≡ true) × (c.letters ≡ bytes.now)) }
     {
-        if bytes.len() != 3 {
-            return None;
-        }
+        let letters: [u8; 3] = bytes.try_into().ok()?;
         if first_forbidden(ByteClass::Capital, bytes).is_some() {
             return None;
         }
-        Some(Currency {
-            letters: [bytes[0], bytes[1], bytes[2]],
-        })
+        Some(Currency { letters })
     }
 
     // The three letters.
@@ -62,5 +59,20 @@ impl Currency {
         ensures capitals { is_currency result ≡ true }
     {
         self.letters
+    }
+}
+
+// Hundredths, printed as wholes and two digits behind a point: an amount, or a sum of amounts.
+#[derive(Clone, Copy)]
+pub struct Hundredths(pub u64);
+
+impl fmt::Display for Hundredths {
+    ghost output = { λ h. Some (with_point h.0) };
+
+    fn fmt<W: fmt::Write>(&self, f: &mut fmt::Formatter<W>) -> fmt::Result {
+        let whole = self.0 / 100;
+        let tens = self.0 / 10 % 10;
+        let ones = self.0 % 10;
+        write!(f, "{whole}.{tens}{ones}")
     }
 }

@@ -1,6 +1,8 @@
 // Why a call is refused, and where.
-ghost use Rattle.std.specs.Prelude.{◌≡◌};
-ghost use Rattle.basics.specs.Refusals.{number, reason, depth, layer};
+ghost use Rattle.std.specs.Prelude.{◌≡◌, Some};
+ghost use Rattle.basics.specs.Refusals.{number, reason, depth, layer, in_words};
+
+use std::fmt;
 
 // The reason of a refusal. Its discriminant is its number in docs/FORMAT.md.
 #[derive(Clone, Copy, Debug, PartialEq, Eq)]
@@ -70,7 +72,8 @@ impl Layer {
     }
 }
 
-// A refusal with its place. Lines, fields and bytes count from 1, and 0 says that none is named.
+// A refusal with its place. Lines, fields and bytes count from 1. By rule 0, and no `Option`, says
+// that none is named.
 #[derive(Clone, Copy, Debug, PartialEq, Eq)]
 pub struct Refusal {
     pub reason: Reason,
@@ -78,4 +81,59 @@ pub struct Refusal {
     pub line: usize,
     pub field: usize,
     pub byte: usize,
+}
+
+impl Refusal {
+    // A refusal that names no place.
+    pub fn new(reason: Reason, layer: Layer) -> Refusal
+        ensures { result ≡ record { reason = reason; layer = layer; line = 0; field = 0; byte = 0 } }
+    {
+        Refusal {
+            reason,
+            layer,
+            line: 0,
+            field: 0,
+            byte: 0,
+        }
+    }
+
+    // The same refusal with this line for its place.
+    pub fn in_line(self, line: usize) -> Refusal
+        ensures { result ≡ record { reason = self.reason; layer = self.layer; line = line; field = self.field; byte = self.byte } }
+    {
+        Refusal { line, ..self }
+    }
+
+    // The same refusal with this field for its place.
+    pub fn in_field(self, field: usize) -> Refusal
+        ensures { result ≡ record { reason = self.reason; layer = self.layer; line = self.line; field = field; byte = self.byte } }
+    {
+        Refusal { field, ..self }
+    }
+
+    // The same refusal with this byte for its place.
+    pub fn at_byte(self, byte: usize) -> Refusal
+        ensures { result ≡ record { reason = self.reason; layer = self.layer; line = self.line; field = self.field; byte = byte } }
+    {
+        Refusal { byte, ..self }
+    }
+}
+
+impl fmt::Display for Refusal {
+    ghost output = { λ e. Some (in_words e) };
+
+    fn fmt<W: fmt::Write>(&self, f: &mut fmt::Formatter<W>) -> fmt::Result {
+        let number = self.reason.number();
+        let layer = self.layer.number();
+        let Refusal {
+            line,
+            field,
+            byte,
+            ..
+        } = *self;
+        write!(
+            f,
+            "{number} layer {layer} line {line} field {field} byte {byte}"
+        )
+    }
 }

@@ -1,7 +1,8 @@
 // A stack of rows over memory that a caller lends, for every kind of row.
 ghost use Rattle.std.specs.Prelude.{◌≡◌, ℕ, ◌+◌, ◌<◌, ◌≤◌, length, MatchResult, slice_set};
 
-// The rows below `used` are on the stack, and the others are free.
+// The rows below `used` are on the stack, and the others are free. A count beside lent memory, and
+// no Vec, since there is to be no heap.
 #[derive(Drop)]
 pub struct RowStack<'a, T> {
     rows: &'a mut [T],
@@ -40,8 +41,7 @@ impl<'a, T: Copy> RowStack<'a, T> {
     pub fn used(&self) -> usize
         ensures { result ≡ self.now.used }
     {
-        let RowStack { used, .. } = self;
-        *used
+        self.used
     }
 }
 

@@ -5,7 +5,6 @@ use Rattle.std.proofs.lemmas.Bool.{le-leb, and_from, cond-true, cond-false}
 use Rattle.basics.specs.declared.refusal.Refusal.{Refusal}
 use Rattle.layouts.specs.declared.field.Field.{Field}
 use Rattle.lines.specs.Judging.{and_then, judged}
-use Rattle.lines.proofs.Steps.{absurd-err}
 use Rattle.files.specs.Lines.{lines_of}
 use Rattle.changes.specs.Edits.{ended, has_line, line_of, replaced, struck}
 use Rattle.changes.specs.States.{State, Contents, within, contents, used_file, Promise}
@@ -23,10 +22,6 @@ passed b n e = sym (cond-true b (Ok tt) (Err (draft_refusal n)) e)
 
 pub failed : (b : Bool) (n : ℕ) → b ≡ false → Err (draft_refusal n) ≡ required b n
 failed b n e = sym (cond-false b (Ok tt) (Err (draft_refusal n)) e)
-
-pub test-true : (b : Bool) (n : ℕ) → Ok tt ≡ required b n → b ≡ true
-test-true true n e = refl
-test-true false n e = absurd-err (sym e)
 
 pub asked-short : (call : Contents → Result Contents Refusal) (s : State) (e : Refusal) → Err e ≡ required (within s) 31 → asked call s ≡ Err e
 unfolding asked

@@ -30,9 +30,6 @@ module _ (r : ChangeRow) (old f : List ℕ) where
   pub fits-1 : r.kind ≡ 1 → r.before ≤ length f → row_fits r f ≡ true
   fits-1 e h = of-1 r.kind _ _ e ∙ le-leb r.before (length f) h
 
-  pub misfits-1 : r.kind ≡ 1 → length f < r.before → row_fits r f ≡ false
-  misfits-1 e h = of-1 r.kind _ _ e ∙ lt-leb r.before (length f) h
-
   pub fits-2 : r.kind ≡ 2 → has_line r.line f ≡ true → row_fits r f ≡ true
   fits-2 e h = of-2 r.kind _ _ _ e ∙ h
 
@@ -47,17 +44,9 @@ module _ (r : ChangeRow) (old f : List ℕ) where
   unfolding placed
   fits-3 e h k = third e ∙ and_from (leb 1 r.line) _ (le-leb 1 r.line (omega arith)) (le-leb r.line (length (lines_of f) + 1) k)
 
-  pub misfits-3-zero : r.kind ≡ 3 → r.line ≡ 0 → row_fits r f ≡ false
-  unfolding placed
-  misfits-3-zero e h = third e ∙ and_left (leb 1 r.line) _ (lt-leb 1 r.line (omega arith))
-
   pub misfits-3-past : r.kind ≡ 3 → length (lines_of f) + 1 < r.line → row_fits r f ≡ false
   unfolding placed
   misfits-3-past e h = third e ∙ and_right (leb 1 r.line) (leb r.line (length (lines_of f) + 1)) (lt-leb r.line (length (lines_of f) + 1) h)
-
-  pub misfits-other : (r.kind ≡ 1 → ⊥) → (r.kind ≡ 2 → ⊥) → (r.kind ≡ 3 → ⊥) → row_fits r f ≡ false
-  misfits-other a b d =
-      cond-false (eqb r.kind 1) _ _ (ne_eqb r.kind 1 a) ∙ cond-false (eqb r.kind 2) _ _ (ne_eqb r.kind 2 b) ∙ cond-false (eqb r.kind 3) _ _ (ne_eqb r.kind 3 d)
 
   pub before-1 : r.kind ≡ 1 → file_before r old f ≡ take r.before f
   before-1 e = of-1 r.kind _ _ e

@@ -3,3 +3,4 @@ pub mod Places
 pub mod States
 pub mod Calls
 pub mod Backs
+pub mod Kinds

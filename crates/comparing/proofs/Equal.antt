@@ -1,24 +1,14 @@
 -- Records of the same digits and values are the same line.
-use Rattle.std.proofs.Common.{◌≡◌, ℕ, Bool, true, false, List, Ok, Decides, sym, refl, ap, ◌∙◌, subst}
-use Rattle.std.specs.Str.{bytes_eq}
-use Rattle.std.proofs.lemmas.Slice.Eq.{bytes_eq-Decides}
+use Rattle.std.proofs.Common.{◌≡◌, ℕ, Bool, true, List, Ok, Decides, refl, ap, subst}
 use Rattle.layouts.specs.declared.field.Field.{Field}
 use Rattle.layouts.specs.Layouts.{is_lawful, digits_of}
 use Rattle.layouts.proofs.Laws.{lawful-layouts}
-use Rattle.lines.specs.Judging.{and_then, judged}
+use Rattle.lines.specs.Judging.{judged}
 use Rattle.lines.proofs.Judged.{judged-belongs}
 use Rattle.lines.proofs.Names.{headed, lawful-at}
 use Rattle.values.specs.Values.{Value, values_of}
 use Rattle.values.specs.Records.{IsRecord, SameRecord}
 use Rattle.values.proofs.RecordLaws.{values-tell}
-
-both_ways : (b c : Bool) → (b ≡ true → c ≡ true) → (c ≡ true → b ≡ true) → b ≡ c
-both_ways true c f g = sym (f refl)
-both_ways false true f g = g refl
-both_ways false false f g = refl
-
-pub tells-bytes : (xs ys : List ℕ) (b : Bool) → Decides b (xs ≡ ys) → b ≡ bytes_eq xs ys
-tells-bytes xs ys b d = let s = bytes_eq-Decides xs ys in both_ways b (bytes_eq xs ys) (λ e. s.1 (d.0 e)) (λ e. d.1 (s.0 e))
 
 module _ (ls : List (List Field)) (line other : List ℕ) where
   -- a line that is accepted is a record
@@ -35,9 +25,3 @@ module _ (ls : List (List Field)) (line other : List ℕ) where
         λ t. record { digits = r.0; values = r.1.0; one = r.1.1; other = subst (IsRecord ls r.0 r.1.0) (d.0 t) r.1.1 },
         λ s. d.1 (values-tell ls s.digits s.values line other law s.one s.other),
       )
-
-  pub both-judged : (j k : ℕ) (b : Bool) → judged ls line ≡ Ok j → judged ls other ≡ Ok k → b ≡ bytes_eq line other → Ok b ≡ and_then (judged ls line) (λ _. and_then (judged ls other) (λ _. Ok (bytes_eq line other)))
-  both-judged j k b e f g =
-      ap Ok g
-      ∙ sym
-      (ap (λ r. and_then r (λ _. and_then (judged ls other) (λ _. Ok (bytes_eq line other)))) e ∙ ap (λ r. and_then r (λ _. Ok (bytes_eq line other))) f)

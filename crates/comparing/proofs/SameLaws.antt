@@ -1,5 +1,5 @@
 -- Equal rows show the same values, and of records, the same line.
-use Rattle.std.proofs.Common.{◌≡◌, ℕ, zero, suc, ◌+◌, ◌-◌, Bool, true, cond, ◌&&◌, eqb, List, [], ◌∷◌, ◌++◌, map, length, take, drop, IfOk, Some, None, Ok, Err, Decides, Result, sym, refl, ap, ◌∙◌, subst, arith}
+use Rattle.std.proofs.Common.{◌≡◌, ℕ, zero, suc, ◌+◌, ◌-◌, Bool, true, false, cond, ◌&&◌, eqb, List, [], ◌∷◌, ◌++◌, map, length, take, drop, IfOk, Some, None, Ok, Err, Decides, Result, sym, refl, ap, ◌∙◌, subst, arith}
 use borrow.Author.Tests.{clash}
 use Rattle.std.specs.Str.{bytes_eq}
 use Rattle.std.proofs.lemmas.Slice.Eq.{bytes_eq-Decides}
@@ -8,7 +8,7 @@ use Rattle.std.proofs.lemmas.Bool.{and_parts, and_from, eqb-true, eq-eqb}
 use Rattle.basics.specs.declared.refusal.Refusal.{Refusal}
 use Rattle.basics.specs.Decimals.{number_of}
 use Rattle.basics.specs.Texts.{trim}
-use Rattle.basics.proofs.ByteLaws.{same_some}
+use Rattle.basics.proofs.ByteLaws.{absurd-none, same_some}
 use Rattle.layouts.specs.declared.field.Field.{Field}
 use Rattle.layouts.specs.Kinds.{constant, figures, letters, code, Shape, one, block, shape}
 use Rattle.layouts.specs.Layouts.{place, or_empty, is_lawful, digits_of}
@@ -24,7 +24,10 @@ use Rattle.values.specs.Writing.{first_number}
 use Rattle.values.proofs.FieldLaws.{shows-join, shows-split}
 use Rattle.values.proofs.RecordLaws.{cut-follows, writes-record}
 use Rattle.comparing.specs.Comparing.{same_number, same_text, same_texts, same_field, onward, same_rows, same_by, same_for, FieldKinds, Kinds, SameValues}
-use Rattle.comparing.proofs.SameSteps.{chosen}
+
+chosen : (t : Bool) (m n : ℕ) → cond t (Some m) None ≡ Some n → (t ≡ true) × (m ≡ n)
+chosen true m n e = (refl, same_some e)
+chosen false m n e = absurd-none e
 
 -- both lists show these values, and leave all but the first n rows
 record Both (bytes : List ℕ) (rs : List ValueRow) (others : List ℕ) (ss : List ValueRow) (vs : List Value) (n : ℕ) : Type 0 where
@@ -280,10 +283,10 @@ module _ (ls : List (List Field)) (n : ℕ) (bytes : List ℕ) (rs : List ValueR
   by_answer (Ok b) P h = h b refl
   by_answer (Err e) P h = tt
 
-  pub tells-values : IfOk (same_for ls n bytes rs others ss) (λ b. (j : ℕ) (l : List Field) → place ls j ≡ Some l → digits_of l ≡ Some n → Decides b (SameValues l bytes rs others ss))
-  tells-values =
-      by_answer (same_for ls n bytes rs others ss) (λ b. (j : ℕ) (l : List Field) → place ls j ≡ Some l → digits_of l ≡ Some n → Decides b (SameValues l bytes rs others ss))
-      (λ b e j l at has. subst (λ c. Decides c (SameValues l bytes rs others ss)) (same_ok (sym (same_at j l at has) ∙ e)) (decides l))
+  pub tells-values : (r : Result Bool Refusal) → r ≡ same_for ls n bytes rs others ss → IfOk r (λ b. (j : ℕ) (l : List Field) → place ls j ≡ Some l → digits_of l ≡ Some n → Decides b (SameValues l bytes rs others ss))
+  tells-values r is =
+      by_answer r (λ b. (j : ℕ) (l : List Field) → place ls j ≡ Some l → digits_of l ≡ Some n → Decides b (SameValues l bytes rs others ss))
+      (λ b e j l at has. subst (λ c. Decides c (SameValues l bytes rs others ss)) (same_ok (sym (same_at j l at has) ∙ sym is ∙ e)) (decides l))
 
   tells-line : (b : Bool) → same_for ls n bytes rs others ss ≡ Ok b → (s t : List ℕ) → ShowsRecord ls n bytes rs s → ShowsRecord ls n others ss t → Decides b (s ≡ t)
   tells-line b e s t x y =
@@ -303,6 +306,5 @@ module _ (ls : List (List Field)) (n : ℕ) (bytes : List ℕ) (rs : List ValueR
             sym is ∙ rows-meet l x.values bytes rs others ss kinds x.shown (subst (ShowsAll others ss) vs z.shown),
       )
 
-  pub tells-lines : IfOk (same_for ls n bytes rs others ss) (λ b. (s t : List ℕ) → ShowsRecord ls n bytes rs s → ShowsRecord ls n others ss t → Decides b (s ≡ t))
-  tells-lines =
-      by_answer (same_for ls n bytes rs others ss) (λ b. (s t : List ℕ) → ShowsRecord ls n bytes rs s → ShowsRecord ls n others ss t → Decides b (s ≡ t)) tells-line
+  pub tells-lines : (r : Result Bool Refusal) → r ≡ same_for ls n bytes rs others ss → IfOk r (λ b. (s t : List ℕ) → ShowsRecord ls n bytes rs s → ShowsRecord ls n others ss t → Decides b (s ≡ t))
+  tells-lines r is = by_answer r (λ b. (s t : List ℕ) → ShowsRecord ls n bytes rs s → ShowsRecord ls n others ss t → Decides b (s ≡ t)) (λ b e. tells-line b (sym is ∙ e))

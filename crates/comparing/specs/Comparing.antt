@@ -29,14 +29,18 @@ abbrev pub same_texts : ℕ → List ℕ → List ValueRow → List ℕ → List
 same_texts zero bytes rs others ss = true
 same_texts (suc n) bytes rs others ss = same_text bytes rs others ss && same_texts n bytes (drop 1 rs) others (drop 1 ss)
 
+-- how many rows a block has, if they are equal
+abbrev pub same_block : List ℕ → List ValueRow → List ℕ → List ValueRow → Option ℕ
+same_block bytes rs others ss =
+    cond (same_number rs ss && same_texts (first_number rs) bytes (drop 1 rs) others (drop 1 ss)) (Some (1 + first_number rs)) None
+
 -- how many rows a field has, if they are equal
 abbrev pub same_field : Shape → List ℕ → List ValueRow → List ℕ → List ValueRow → Option ℕ
 same_field (one (constant bs)) bytes rs others ss = Some 0
 same_field (one (figures w ok n)) bytes rs others ss = cond (same_number rs ss) (Some 1) None
 same_field (one (letters w c ok n)) bytes rs others ss = cond (same_text bytes rs others ss) (Some 1) None
 same_field (one (code c)) bytes rs others ss = cond (same_number rs ss) (Some 1) None
-same_field (block high counts ok) bytes rs others ss =
-    cond (same_number rs ss && same_texts (first_number rs) bytes (drop 1 rs) others (drop 1 ss)) (Some (1 + first_number rs)) None
+same_field (block high counts ok) bytes rs others ss = same_block bytes rs others ss
 
 abbrev pub onward : Option ℕ → (ℕ → Bool) → Bool
 onward None k = false

@@ -4,38 +4,28 @@ ghost use Rattle.layouts.specs.Layouts.{layout_at};
 ghost use Rattle.comparing.specs.Comparing.{same_rows};
 
 use crate::same::same_field;
+use layouts::fields::fields_of;
 use layouts::set::LayoutSet;
-use values::form::form_of;
-use values::row::ValueRow;
+use values::form::Form;
+use values::row::Values;
 
 // Whether the rows are equal under layout j.
 pub(crate) fn same_fields<S: LayoutSet>(
     set: &S,
     j: usize,
-    rows: &[ValueRow],
-    bytes: &[u8],
-    other_rows: &[ValueRow],
-    other_bytes: &[u8],
+    values: &Values<'_>,
+    other: &Values<'_>,
 ) -> bool
-    ensures { result ≡ same_rows (layout_at (S.meaning set.now) j) bytes.now rows.now other_bytes.now other_rows.now }
+    ensures { result ≡ same_rows (layout_at (S.meaning set.now) j) values.now.bytes.now values.now.rows.now other.now.bytes.now other.now.rows.now }
 {
-    let mut used = 0;
-    let mut i = 1;
-    while let Some(f) = set.field(j, i) {
-        let Some(n) = same_field(
-            form_of(f),
-            &rows[used..],
-            bytes,
-            &other_rows[used..],
-            other_bytes,
-        ) else {
+    let mut left = *values;
+    let mut other_left = *other;
+    for f in fields_of(set, j) {
+        let Some(n) = same_field(Form::from(f), &left, &other_left) else {
             return false;
         };
-        used += n;
-        i += 1;
+        left = left.skip(n);
+        other_left = other_left.skip(n);
     }
-    if used != rows.len() {
-        return false;
-    }
-    used == other_rows.len()
+    left.rows.is_empty() && other_left.rows.is_empty()
 }

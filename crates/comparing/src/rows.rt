@@ -9,32 +9,21 @@ use crate::fields::same_fields;
 use basics::refusal::{Layer, Reason, Refusal};
 use layouts::set::LayoutSet;
 use lines::judge::find;
-use values::row::ValueRow;
-
-// No layout has the digits.
-const UNKNOWN_DIGITS: Refusal = Refusal {
-    reason: Reason::UnknownDigits,
-    layer: Layer::Lines,
-    line: 0,
-    field: 0,
-    byte: 0,
-};
+use values::row::Values;
 
 // The answer by the definition that computes it.
 fn compare<S: LayoutSet>(
     set: &S,
     digits: u32,
-    rows: &[ValueRow],
-    bytes: &[u8],
-    other_rows: &[ValueRow],
-    other_bytes: &[u8],
+    values: &Values<'_>,
+    other: &Values<'_>,
 ) -> Result<bool, Refusal>
-    ensures { result ≡ same_for (S.meaning set.now) digits bytes.now rows.now other_bytes.now other_rows.now }
+    ensures { result ≡ same_for (S.meaning set.now) digits values.now.bytes.now values.now.rows.now other.now.bytes.now other.now.rows.now }
 {
-    let Some(j) = find(set, u64::from(digits)) else {
-        return Err(UNKNOWN_DIGITS);
-    };
-    Ok(same_fields(set, j, rows, bytes, other_rows, other_bytes))
+    // No layout has the digits.
+    let unknown = Refusal::new(Reason::UnknownDigits, Layer::Lines);
+    let j = find(set, u64::from(digits)).ok_or(unknown)?;
+    Ok(same_fields(set, j, values, other))
 }
 
 // Whether two lists of rows, each over its own bytes, are equal under the layout of these digits:
@@ -42,14 +31,12 @@ fn compare<S: LayoutSet>(
 pub fn same_values<S: LayoutSet>(
     set: &S,
     digits: u32,
-    rows: &[ValueRow],
-    bytes: &[u8],
-    other_rows: &[ValueRow],
-    other_bytes: &[u8],
+    values: &Values<'_>,
+    other: &Values<'_>,
 ) -> Result<bool, Refusal>
-    ensures answer { result ≡ same_for (S.meaning set.now) digits bytes.now rows.now other_bytes.now other_rows.now }
-    ensures equal_numbers_and_texts { IfOk result (λ b. (j : ℕ) (l : List Field) → place (S.meaning set.now) j ≡ Some l → digits_of l ≡ Some digits → Decides b (SameValues l bytes.now rows.now other_bytes.now other_rows.now)) }
-    ensures equal_values_mean_equal_lines { IfOk result (λ b. (s t : List ℕ) → ShowsRecord (S.meaning set.now) digits bytes.now rows.now s → ShowsRecord (S.meaning set.now) digits other_bytes.now other_rows.now t → Decides b (s ≡ t)) }
+    ensures answer { result ≡ same_for (S.meaning set.now) digits values.now.bytes.now values.now.rows.now other.now.bytes.now other.now.rows.now }
+    ensures equal_numbers_and_texts { IfOk result (λ b. (j : ℕ) (l : List Field) → place (S.meaning set.now) j ≡ Some l → digits_of l ≡ Some digits → Decides b (SameValues l values.now.bytes.now values.now.rows.now other.now.bytes.now other.now.rows.now)) }
+    ensures equal_values_mean_equal_lines { IfOk result (λ b. (s t : List ℕ) → ShowsRecord (S.meaning set.now) digits values.now.bytes.now values.now.rows.now s → ShowsRecord (S.meaning set.now) digits other.now.bytes.now other.now.rows.now t → Decides b (s ≡ t)) }
 {
-    compare(set, digits, rows, bytes, other_rows, other_bytes)
+    compare(set, digits, values, other)
 }

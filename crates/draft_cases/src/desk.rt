@@ -2,8 +2,8 @@
 use basics::refusal::{Reason, Refusal};
 use changes::change_row::ChangeRow;
 use drafts::draft::Draft;
-use runs::call::Call;
-use std::alloc::{AllocError, Global};
+use runs::call::{Call, play};
+use std::alloc::AllocError;
 use strips::loaded_set::LoadedSet;
 
 // What free memory holds at first.
@@ -24,7 +24,9 @@ pub struct Sizes {
 
 // Of each memory the first so many bytes or rows are lent to a call.
 #[derive(Drop)]
-pub struct Desk {
+pub struct Desk<'a> {
+    pub rt: HostRuntime,
+    pub set: &'a LoadedSet,
     pub draft: Draft,
     pub file: Vec<u8>,
     pub rows: Vec<ChangeRow>,
@@ -33,7 +35,7 @@ pub struct Desk {
 }
 
 // What a desk held, to compare with.
-#[derive(Drop)]
+#[derive(PartialEq, Eq, Drop)]
 pub struct Photo {
     file: Vec<u8>,
     rows: Vec<ChangeRow>,
@@ -41,157 +43,101 @@ pub struct Photo {
     used: Sizes,
 }
 
-// A new draft over so much memory.
-pub(crate) fn new_desk(
-    heap: Global,
-    file: usize,
-    rows: usize,
-    kept: usize,
-) -> Result<Desk, AllocError> {
-    Ok(Desk {
-        draft: Draft::new(),
-        file: vec![in heap; b'.'; file]?,
-        rows: vec![in heap; FREE; rows]?,
-        kept: vec![in heap; b'-'; kept]?,
-        lent: Sizes { file, rows, kept },
-    })
-}
-
 // The first n of them, or all.
-fn front<T>(all: &mut [T], n: usize) -> &mut [T] {
+pub(crate) fn front<T>(all: &mut [T], n: usize) -> &mut [T] {
     let n = n.min(all.len());
-    &mut all[0..n]
+    &mut all[..n]
 }
 
-// Whether a call is refused for its memory: there is no line 0, so this call alters nothing.
-fn is_short(draft: &mut Draft, file: &mut [u8], rows: &mut [ChangeRow], kept: &mut [u8]) -> bool {
-    match draft.strike(file, rows, kept, 0) {
-        Ok(()) => false,
-        Err(e) => e.reason == Reason::MemoryShorterThanUsed,
+// Overwrites one byte or row, as any caller can.
+pub(crate) fn overwrite<T: Copy>(memory: &mut [T], i: usize, value: T) {
+    if let Some(place) = memory.get_mut(i) {
+        *place = value;
     }
 }
 
-// How many rows are used: the fewest that are not too short. Each turn halves what is left between
-// `low` and `high`.
-fn used_rows(draft: &mut Draft, file: &mut [u8], rows: &mut [ChangeRow], kept: &mut [u8]) -> usize {
-    let mut low = 0;
-    let mut high = rows.len();
-    for _ in 0..64 {
-        if low >= high {
-            break;
-        }
-        let middle = low.saturating_add((high - low) / 2);
-        if is_short(draft, file, front(rows, middle), kept) {
-            low = middle.saturating_add(1);
-        } else {
-            high = middle;
-        }
+impl<'a> Desk<'a> {
+    // A new draft over so much memory, and all of it is lent.
+    pub(crate) fn new(
+        rt: HostRuntime,
+        set: &'a LoadedSet,
+        file: usize,
+        rows: usize,
+        kept: usize,
+    ) -> Result<Desk<'a>, AllocError> {
+        let heap = rt.alloc();
+        Ok(Desk {
+            rt,
+            set,
+            draft: Draft::new(),
+            file: vec![in heap; b'.'; file]?,
+            rows: vec![in heap; FREE; rows]?,
+            kept: vec![in heap; b'-'; kept]?,
+            lent: Sizes { file, rows, kept },
+        })
     }
-    low
 }
 
-// How many kept bytes are used, likewise.
-fn used_kept(draft: &mut Draft, file: &mut [u8], rows: &mut [ChangeRow], kept: &mut [u8]) -> usize {
-    let mut low = 0;
-    let mut high = kept.len();
-    for _ in 0..64 {
-        if low >= high {
-            break;
-        }
-        let middle = low.saturating_add((high - low) / 2);
-        if is_short(draft, file, rows, front(kept, middle)) {
-            low = middle.saturating_add(1);
-        } else {
-            high = middle;
-        }
-    }
-    low
-}
-
-impl Desk {
+impl Desk<'_> {
     // Lends so much from now on.
     pub(crate) fn lend(&mut self, file: usize, rows: usize, kept: usize) {
         self.lent = Sizes { file, rows, kept };
     }
 
     // Makes the call over the lent memory.
-    pub(crate) fn call(&mut self, set: &LoadedSet, call: Call<'_>) -> Result<(), Refusal> {
-        let file = front(&mut self.file, self.lent.file);
-        let rows = front(&mut self.rows, self.lent.rows);
-        let kept = front(&mut self.kept, self.lent.kept);
-        match call {
-            Call::Import(delivery) => self.draft.import(set, file, rows, kept, delivery),
-            Call::Add(line) => self.draft.add(set, file, rows, kept, line),
-            Call::Replace(n, line) => self.draft.replace(set, file, rows, kept, n, line),
-            Call::Strike(n) => self.draft.strike(file, rows, kept, n),
-            Call::Undo => self.draft.undo(file, rows, kept),
-        }
+    pub(crate) fn call(&mut self, call: Call<'_>) -> Result<(), Refusal> {
+        self.call_over(self.lent, call)
+    }
+
+    fn call_over(&mut self, lent: Sizes, call: Call<'_>) -> Result<(), Refusal> {
+        play(
+            &mut self.draft,
+            self.set,
+            front(&mut self.file, lent.file),
+            front(&mut self.rows, lent.rows),
+            front(&mut self.kept, lent.kept),
+            call,
+        )
+    }
+
+    // Whether so much memory is less than what is used: there is no line 0, so this call alters
+    // nothing.
+    fn is_short(&mut self, lent: Sizes) -> bool {
+        self.call_over(lent, Call::Strike(0))
+            .is_err_and(|e| e.reason == Reason::MemoryShorterThanUsed)
     }
 
     // The used file bytes.
     pub(crate) fn shown(&self) -> &[u8] {
-        match self.draft.show(&self.file) {
-            Ok(bytes) => bytes,
-            Err(_) => b"no file",
-        }
+        self.draft.show(&self.file).unwrap_or(b"no file")
     }
 
     // How much is used of each memory. The draft keeps its counts to itself, so they are found by
-    // calls that are refused.
+    // calls that are refused: the fewest rows and the fewest kept bytes that are not too short.
     pub(crate) fn used(&mut self) -> Sizes {
+        let all = Sizes {
+            file: self.file.len(),
+            rows: self.rows.len(),
+            kept: self.kept.len(),
+        };
         Sizes {
             file: self.shown().len(),
-            rows: used_rows(
-                &mut self.draft,
-                &mut self.file,
-                &mut self.rows,
-                &mut self.kept,
-            ),
-            kept: used_kept(
-                &mut self.draft,
-                &mut self.file,
-                &mut self.rows,
-                &mut self.kept,
-            ),
+            rows: (0..all.rows)
+                .find(|rows| !self.is_short(Sizes { rows: *rows, ..all }))
+                .unwrap_or(all.rows),
+            kept: (0..all.kept)
+                .find(|kept| !self.is_short(Sizes { kept: *kept, ..all }))
+                .unwrap_or(all.kept),
         }
     }
 
     // A copy of all memory, used, free and not lent, and of the counts.
-    pub(crate) fn photo(&mut self, heap: Global) -> Result<Photo, AllocError> {
+    pub(crate) fn photo(&mut self) -> Result<Photo, AllocError> {
         Ok(Photo {
-            file: self.file.to_vec(heap)?,
-            rows: self.rows.to_vec(heap)?,
-            kept: self.kept.to_vec(heap)?,
+            file: self.file.clone()?,
+            rows: self.rows.clone()?,
+            kept: self.kept.clone()?,
             used: self.used(),
         })
-    }
-
-    // Whether all is as it was, byte for byte.
-    pub(crate) fn is_as(&mut self, photo: &Photo) -> bool {
-        self.file == photo.file
-            && self.rows == photo.rows
-            && self.kept == photo.kept
-            && self.used() == photo.used
-    }
-
-    // Overwrites one row, as any caller can.
-    pub(crate) fn write_row(&mut self, i: usize, row: ChangeRow) {
-        if let Some(place) = self.rows.get_mut(i) {
-            *place = row;
-        }
-    }
-
-    // Overwrites one file byte.
-    pub(crate) fn write_file(&mut self, i: usize, b: u8) {
-        if let Some(place) = self.file.get_mut(i) {
-            *place = b;
-        }
-    }
-
-    // Overwrites one kept byte.
-    pub(crate) fn write_kept(&mut self, i: usize, b: u8) {
-        if let Some(place) = self.kept.get_mut(i) {
-            *place = b;
-        }
     }
 }

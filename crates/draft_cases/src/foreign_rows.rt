@@ -1,112 +1,99 @@
 // Rows and kept bytes that the caller has overwritten.
-use crate::desk::Desk;
-use crate::sample::{strike, undo};
+use crate::desk::{front, overwrite};
 use crate::short_memory::second_struck;
-use crate::tell::{step, tell_file};
 use changes::change_row::ChangeRow;
+use runs::call::Call;
 use std::io;
 use strips::loaded_set::LoadedSet;
 
-fn row(kind: u8, line: usize, before: usize, kept: usize) -> ChangeRow {
-    ChangeRow {
-        kind,
-        line,
-        before,
-        kept,
-    }
-}
-
-// Undo by such a row, where 56 bytes in 2 lines, 2 rows and 26 kept bytes are used. So many file
-// bytes are lent.
-fn undo_by(
-    rt: HostRuntime,
-    set: &LoadedSet,
-    what: &str,
-    lent: usize,
-    row: ChangeRow,
-) -> io::Result<()> {
-    let mut desk = second_struck(rt.alloc(), set)?;
-    desk.write_row(1, row);
-    desk.lent.file = lent;
-    step(rt, set, &mut desk, what, undo())?;
-    tell_file(rt, &desk)
-}
+// A name, how many file bytes are lent, and a row: its kind, its line, the bytes before it and the
+// bytes that it kept.
+type Case = (&'static str, usize, (u8, usize, usize, usize));
 
 const MOST: usize = usize::MAX;
 
-fn refused_rows(rt: HostRuntime, set: &LoadedSet) -> io::Result<()> {
-    undo_by(rt, set, "kind 0", 140, row(0, 2, 84, 26))?;
-    undo_by(rt, set, "kind 4", 140, row(4, 2, 84, 26))?;
-    undo_by(rt, set, "kind 255", 140, row(255, 2, 84, 26))?;
-    undo_by(rt, set, "kind 1, before 57", 140, row(1, 0, 57, 0))?;
-    undo_by(rt, set, "kind 1, before most", 140, row(1, 0, MOST, 0))?;
-    undo_by(rt, set, "kind 2, n 0", 140, row(2, 0, 84, 26))?;
-    undo_by(rt, set, "kind 2, n 3", 140, row(2, 3, 84, 26))?;
-    undo_by(rt, set, "kind 2, n most", 140, row(2, MOST, 84, 26))?;
-    undo_by(rt, set, "kind 3, n 0", 140, row(3, 0, 84, 26))?;
-    undo_by(rt, set, "kind 3, n 4", 140, row(3, 4, 84, 26))?;
-    undo_by(rt, set, "kind 3, n most", 140, row(3, MOST, 84, 26))?;
-    undo_by(rt, set, "kind 1, kept 27", 140, row(1, 0, 28, 27))?;
-    undo_by(rt, set, "kind 2, kept 27", 140, row(2, 2, 84, 27))?;
-    undo_by(rt, set, "kind 3, kept 27", 140, row(3, 2, 84, 27))?;
-    undo_by(rt, set, "kind 3, kept most", 140, row(3, 2, 84, MOST))
-}
+const REFUSED_ROWS: [Case; 15] = [
+    ("kind 0", 140, (0, 2, 84, 26)),
+    ("kind 4", 140, (4, 2, 84, 26)),
+    ("kind 255", 140, (255, 2, 84, 26)),
+    ("kind 1, before 57", 140, (1, 0, 57, 0)),
+    ("kind 1, before most", 140, (1, 0, MOST, 0)),
+    ("kind 2, n 0", 140, (2, 0, 84, 26)),
+    ("kind 2, n 3", 140, (2, 3, 84, 26)),
+    ("kind 2, n most", 140, (2, MOST, 84, 26)),
+    ("kind 3, n 0", 140, (3, 0, 84, 26)),
+    ("kind 3, n 4", 140, (3, 4, 84, 26)),
+    ("kind 3, n most", 140, (3, MOST, 84, 26)),
+    ("kind 1, kept 27", 140, (1, 0, 28, 27)),
+    ("kind 2, kept 27", 140, (2, 2, 84, 27)),
+    ("kind 3, kept 27", 140, (3, 2, 84, 27)),
+    ("kind 3, kept most", 140, (3, 2, 84, MOST)),
+];
 
 // These rows fit, though no change of the draft wrote them.
-fn accepted_rows(rt: HostRuntime, set: &LoadedSet) -> io::Result<()> {
-    undo_by(rt, set, "kind 1, before 56", 140, row(1, 0, 56, 0))?;
-    undo_by(rt, set, "kind 1, before 27", 140, row(1, 7, 27, 26))?;
-    undo_by(rt, set, "kind 1, before 0", 140, row(1, 0, 0, 5))?;
-    undo_by(rt, set, "kind 2, n 2", 140, row(2, 2, 0, 26))?;
-    undo_by(rt, set, "kind 2, kept 0", 140, row(2, 1, 84, 0))?;
-    undo_by(rt, set, "kind 3, n 3", 140, row(3, 3, 84, 26))?;
-    undo_by(rt, set, "kind 3, n 1", 140, row(3, 1, 0, 26))?;
-    undo_by(rt, set, "kind 3, kept 25", 140, row(3, 2, 84, 25))?;
-    undo_by(rt, set, "kind 3, kept 0", 140, row(3, 2, 84, 0))
-}
+const ACCEPTED_ROWS: [Case; 9] = [
+    ("kind 1, before 56", 140, (1, 0, 56, 0)),
+    ("kind 1, before 27", 140, (1, 7, 27, 26)),
+    ("kind 1, before 0", 140, (1, 0, 0, 5)),
+    ("kind 2, n 2", 140, (2, 2, 0, 26)),
+    ("kind 2, kept 0", 140, (2, 1, 84, 0)),
+    ("kind 3, n 3", 140, (3, 3, 84, 26)),
+    ("kind 3, n 1", 140, (3, 1, 0, 26)),
+    ("kind 3, kept 25", 140, (3, 2, 84, 25)),
+    ("kind 3, kept 0", 140, (3, 2, 84, 0)),
+];
 
 // The file memory has just no room for what comes back. A row that does not fit comes first.
-fn room(rt: HostRuntime, set: &LoadedSet) -> io::Result<()> {
-    undo_by(rt, set, "in 83 bytes", 83, row(3, 2, 84, 26))?;
-    undo_by(rt, set, "in 84 bytes", 84, row(3, 2, 84, 26))?;
-    undo_by(rt, set, "kept 0 in 57 bytes", 57, row(3, 2, 84, 0))?;
-    undo_by(rt, set, "kept 0 in 58 bytes", 58, row(3, 2, 84, 0))?;
-    undo_by(rt, set, "kind 2 in 56 bytes", 56, row(2, 2, 84, 26))?;
-    undo_by(rt, set, "kind 4 in 56 bytes", 56, row(4, 2, 84, 26))?;
-    undo_by(rt, set, "n 4 in 56 bytes", 56, row(3, 4, 84, 26))?;
-    undo_by(rt, set, "kept 27 in 56 bytes", 56, row(3, 2, 84, 27))
-}
+const LITTLE_ROOM: [Case; 8] = [
+    ("in 83 bytes", 83, (3, 2, 84, 26)),
+    ("in 84 bytes", 84, (3, 2, 84, 26)),
+    ("kept 0 in 57 bytes", 57, (3, 2, 84, 0)),
+    ("kept 0 in 58 bytes", 58, (3, 2, 84, 0)),
+    ("kind 2 in 56 bytes", 56, (2, 2, 84, 26)),
+    ("kind 4 in 56 bytes", 56, (4, 2, 84, 26)),
+    ("n 4 in 56 bytes", 56, (3, 4, 84, 26)),
+    ("kept 27 in 56 bytes", 56, (3, 2, 84, 27)),
+];
 
-fn fill_kept(desk: &mut Desk) {
-    for i in 0..26 {
-        desk.write_kept(i, b'z');
+// Undo by such rows, where 56 bytes in 2 lines, 2 rows and 26 kept bytes are used.
+fn undo_by(rt: HostRuntime, set: &LoadedSet, cases: &[Case]) -> io::Result<()> {
+    for (what, lent, (kind, line, before, kept)) in cases {
+        let mut desk = second_struck(rt, set)?;
+        let row = ChangeRow {
+            kind: *kind,
+            line: *line,
+            before: *before,
+            kept: *kept,
+        };
+        overwrite(&mut desk.rows, 1, row);
+        desk.lent.file = *lent;
+        desk.step_with_file(what, Call::Undo)?;
     }
+    Ok(())
 }
 
 // Undo brings back the kept bytes that are there.
 fn kept_bytes(rt: HostRuntime, set: &LoadedSet) -> io::Result<()> {
-    let mut desk = second_struck(rt.alloc(), set)?;
-    fill_kept(&mut desk);
-    step(rt, set, &mut desk, "undo with other kept bytes", undo())?;
-    tell_file(rt, &desk)?;
-    let mut desk = second_struck(rt.alloc(), set)?;
-    desk.write_kept(10, b'\r');
-    desk.write_kept(11, b'\n');
-    step(rt, set, &mut desk, "undo with CR LF in them", undo())?;
-    tell_file(rt, &desk)?;
-    step(rt, set, &mut desk, "strike 3", strike(3))?;
-    tell_file(rt, &desk)?;
-    step(rt, set, &mut desk, "undo", undo())?;
-    tell_file(rt, &desk)
+    let mut desk = second_struck(rt, set)?;
+    front(&mut desk.kept, 26).fill(b'z');
+    desk.step_with_file("undo with other kept bytes", Call::Undo)?;
+    let mut desk = second_struck(rt, set)?;
+    overwrite(&mut desk.kept, 10, b'\r');
+    overwrite(&mut desk.kept, 11, b'\n');
+    desk.steps_with_file(&[
+        ("undo with CR LF in them", Call::Undo),
+        ("strike 3", Call::Strike(3)),
+        ("undo", Call::Undo),
+    ])
 }
 
 pub(crate) fn foreign_rows(rt: HostRuntime, set: &LoadedSet) -> io::Result<()> {
     println!(rt; "Undo by rows that do not fit")?;
-    refused_rows(rt, set)?;
+    undo_by(rt, set, &REFUSED_ROWS)?;
     println!(rt; "Undo by other rows that fit")?;
-    accepted_rows(rt, set)?;
+    undo_by(rt, set, &ACCEPTED_ROWS)?;
     println!(rt; "Undo with little room")?;
-    room(rt, set)?;
+    undo_by(rt, set, &LITTLE_ROOM)?;
     println!(rt; "Undo with kept bytes overwritten")?;
     kept_bytes(rt, set)
 }

@@ -1,78 +1,61 @@
 // The draft at 1,200 lines.
-use crate::desk::{Desk, new_desk};
-use crate::sample::{BAD, DKK, EUR, ONE_LINE, TWO_LINES, strike, undo};
-use crate::tell::step;
+use crate::desk::Desk;
+use crate::sample::{BAD, DKK, EUR, ONE_LINE, TWO_LINES};
 use runs::call::Call;
-use std::alloc::{AllocError, Global};
 use std::io;
 use strips::loaded_set::LoadedSet;
 
+const NO_MORE: [(&str, Call<'static>); 6] = [
+    ("add", Call::Add(DKK)),
+    ("import one line", Call::Import(ONE_LINE)),
+    ("add a bad line", Call::Add(BAD)),
+    ("import nothing", Call::Import(b"")),
+    ("strike 1201", Call::Strike(1201)),
+    ("replace 1201", Call::Replace(1201, DKK)),
+];
+
+const ONE_FOR_ANOTHER: [(&str, Call<'static>); 7] = [
+    ("strike 600", Call::Strike(600)),
+    ("import two lines", Call::Import(TWO_LINES)),
+    ("add", Call::Add(EUR)),
+    ("add", Call::Add(EUR)),
+    ("replace 1200", Call::Replace(1200, DKK)),
+    ("strike 1200", Call::Strike(1200)),
+    ("strike 1200", Call::Strike(1200)),
+];
+
 // The same line, so many times.
-pub(crate) fn lines_of(heap: Global, n: usize) -> Result<Vec<u8>, AllocError> {
-    let mut bytes = Vec::new(heap);
-    for _ in 0..n {
-        bytes.extend_from_slice(ONE_LINE)?;
-    }
-    Ok(bytes)
+fn import_lines(desk: &mut Desk<'_>, n: usize) -> io::Result<()> {
+    let lines = ONE_LINE.repeat(desk.rt.alloc(), n)?;
+    print!(desk.rt; "{n} lines, ")?;
+    desk.step("import", Call::Import(&lines))
 }
 
-fn no_more(rt: HostRuntime, set: &LoadedSet, desk: &mut Desk) -> io::Result<()> {
-    step(rt, set, desk, "add", Call::Add(DKK))?;
-    step(rt, set, desk, "import one line", Call::Import(ONE_LINE))?;
-    step(rt, set, desk, "add a bad line", Call::Add(BAD))?;
-    step(rt, set, desk, "import nothing", Call::Import(b""))?;
-    step(rt, set, desk, "strike 1201", strike(1201))?;
-    step(rt, set, desk, "replace 1201", Call::Replace(1201, DKK))
-}
-
-fn one_for_another(rt: HostRuntime, set: &LoadedSet, desk: &mut Desk) -> io::Result<()> {
-    step(rt, set, desk, "strike 600", strike(600))?;
-    step(rt, set, desk, "import two lines", Call::Import(TWO_LINES))?;
-    step(rt, set, desk, "add", Call::Add(EUR))?;
-    step(rt, set, desk, "add", Call::Add(EUR))?;
-    step(rt, set, desk, "replace 1200", Call::Replace(1200, DKK))?;
-    step(rt, set, desk, "strike 1200", strike(1200))?;
-    step(rt, set, desk, "strike 1200", strike(1200))
-}
-
-fn all_back(rt: HostRuntime, set: &LoadedSet, desk: &mut Desk) -> io::Result<()> {
-    for _ in 0..6 {
-        step(rt, set, desk, "undo", undo())?;
-    }
-    Ok(())
-}
-
-fn import_lines(rt: HostRuntime, set: &LoadedSet, desk: &mut Desk, n: usize) -> io::Result<()> {
-    let lines = lines_of(rt.alloc(), n)?;
-    print!(rt; "{n} lines, ")?;
-    step(rt, set, desk, "import", Call::Import(&lines))
-}
-
-// 33 comes before 34 and 35.
-fn filled_up(rt: HostRuntime, set: &LoadedSet, desk: &mut Desk) -> io::Result<()> {
-    import_lines(rt, set, desk, 1201)?;
-    step(rt, set, desk, "add", Call::Add(DKK))?;
-    import_lines(rt, set, desk, 1200)?;
-    import_lines(rt, set, desk, 1199)?;
+// 33 comes before 34 and 35. Steps and not a table: what is lent changes between them.
+fn filled_up(desk: &mut Desk<'_>) -> io::Result<()> {
+    import_lines(desk, 1201)?;
+    desk.step("add", Call::Add(DKK))?;
+    import_lines(desk, 1200)?;
+    import_lines(desk, 1199)?;
     desk.lend(33600, 2, 80);
-    step(rt, set, desk, "add with no room at all", Call::Add(DKK))?;
-    step(rt, set, desk, "strike 1 with no row", strike(1))?;
+    desk.step("add with no room at all", Call::Add(DKK))?;
+    desk.step("strike 1 with no row", Call::Strike(1))?;
     desk.lend(33599, 6, 80);
-    step(rt, set, desk, "strike 1 with a byte short", strike(1))?;
+    desk.step("strike 1 with a byte short", Call::Strike(1))?;
     desk.lend(33600, 6, 80);
-    step(rt, set, desk, "strike 1", strike(1))?;
+    desk.step("strike 1", Call::Strike(1))?;
     desk.lend(33599, 6, 80);
-    step(rt, set, desk, "add with a byte short", Call::Add(DKK))?;
+    desk.step("add with a byte short", Call::Add(DKK))?;
     desk.lend(33600, 6, 80);
-    step(rt, set, desk, "add", Call::Add(DKK))
+    desk.step("add", Call::Add(DKK))
 }
 
 pub(crate) fn at_1200_lines(rt: HostRuntime, set: &LoadedSet) -> io::Result<()> {
     println!(rt; "At 1,200 lines")?;
-    let mut desk = new_desk(rt.alloc(), 33656, 6, 80)?;
-    import_lines(rt, set, &mut desk, 1200)?;
-    no_more(rt, set, &mut desk)?;
-    one_for_another(rt, set, &mut desk)?;
-    all_back(rt, set, &mut desk)?;
-    filled_up(rt, set, &mut desk)
+    let mut desk = Desk::new(rt, set, 33656, 6, 80)?;
+    import_lines(&mut desk, 1200)?;
+    desk.steps(&NO_MORE)?;
+    desk.steps(&ONE_FOR_ANOTHER)?;
+    desk.steps(&[("undo", Call::Undo); 6])?;
+    filled_up(&mut desk)
 }

@@ -1,7 +1,6 @@
 // Lines, deliveries and numbers that are refused.
-use crate::desk::{Desk, new_desk};
-use crate::sample::{BAD, DKK, TWO_LINES, strike, undo};
-use crate::tell::step;
+use crate::desk::Desk;
+use crate::sample::{BAD, DKK, TWO_LINES};
 use runs::call::Call;
 use std::alloc::{AllocError, Global};
 use std::io;
@@ -21,25 +20,18 @@ const BAD_LINES: [(&str, &[u8]); 11] = [
     ("a line and its CR LF", b"UBT99900000000000017525DKK\r\n"),
 ];
 
-// A draft of two lines, which has room for every change.
-fn two_lines(heap: Global, set: &LoadedSet) -> Result<Desk, AllocError> {
-    let mut desk = new_desk(heap, 140, 6, 80)?;
-    let _ = desk.call(set, Call::Import(TWO_LINES));
-    Ok(desk)
-}
-
-fn added(rt: HostRuntime, set: &LoadedSet, desk: &mut Desk) -> io::Result<()> {
-    for (what, line) in BAD_LINES {
-        print!(rt; "add ")?;
-        step(rt, set, desk, what, Call::Add(line))?;
-    }
-    Ok(())
-}
-
-fn replaced(rt: HostRuntime, set: &LoadedSet, desk: &mut Desk) -> io::Result<()> {
-    for (what, line) in BAD_LINES {
-        print!(rt; "replace 2 by ")?;
-        step(rt, set, desk, what, Call::Replace(2, line))?;
+// Each of these bytes in the call that `call` makes of them.
+fn each<'a, F: Fn(&'a [u8]) -> Call<'a>>(
+    desk: &mut Desk<'_>,
+    how: &str,
+    cases: &[(&str, &'a [u8])],
+    call: F,
+) -> io::Result<()>
+    requires { F.IsAlwaysCallable call }
+{
+    for (what, bytes) in cases {
+        print!(desk.rt; "{how} ")?;
+        desk.step(what, call(bytes))?;
     }
     Ok(())
 }
@@ -53,11 +45,11 @@ fn delivery_of(heap: Global, line: &[u8]) -> Result<Vec<u8>, AllocError> {
     Ok(bytes)
 }
 
-fn delivered(rt: HostRuntime, set: &LoadedSet, desk: &mut Desk) -> io::Result<()> {
+fn delivered(desk: &mut Desk<'_>) -> io::Result<()> {
     for (what, line) in BAD_LINES {
-        let delivery = delivery_of(rt.alloc(), line)?;
-        print!(rt; "import with ")?;
-        step(rt, set, desk, what, Call::Import(&delivery))?;
+        let delivery = delivery_of(desk.rt.alloc(), line)?;
+        print!(desk.rt; "import with ")?;
+        desk.step(what, Call::Import(&delivery))?;
     }
     Ok(())
 }
@@ -75,82 +67,52 @@ const BAD_DELIVERIES: [(&str, &[u8]); 7] = [
     ("CR LF alone", b"\r\n"),
 ];
 
-fn deliveries(rt: HostRuntime, set: &LoadedSet, desk: &mut Desk) -> io::Result<()> {
-    for (what, delivery) in BAD_DELIVERIES {
-        print!(rt; "import ")?;
-        step(rt, set, desk, what, Call::Import(delivery))?;
-    }
-    Ok(())
-}
-
-// The same bytes, 1,201 times.
-fn many(heap: Global, line: &[u8]) -> Result<Vec<u8>, AllocError> {
-    let mut bytes = Vec::new(heap);
-    for _ in 0..1201 {
-        bytes.extend_from_slice(line)?;
-    }
-    Ok(bytes)
-}
-
-fn long_deliveries(rt: HostRuntime, set: &LoadedSet, desk: &mut Desk) -> io::Result<()> {
-    let bad = many(rt.alloc(), b"UBT\r\n")?;
-    step(rt, set, desk, "import 1,201 bad lines", Call::Import(&bad))?;
-    let mut good = many(rt.alloc(), b"UBT99900000000000017525DKK\r\n")?;
-    step(rt, set, desk, "import 1,201 lines", Call::Import(&good))?;
+fn long_deliveries(desk: &mut Desk<'_>) -> io::Result<()> {
+    let heap = desk.rt.alloc();
+    let bad = b"UBT\r\n".repeat(heap, 1201)?;
+    desk.step("import 1,201 bad lines", Call::Import(&bad))?;
+    let mut good = b"UBT99900000000000017525DKK\r\n".repeat(heap, 1201)?;
+    desk.step("import 1,201 lines", Call::Import(&good))?;
     good.push(b'U')?;
-    step(
-        rt,
-        set,
-        desk,
-        "import 1,201 lines and a byte",
-        Call::Import(&good),
-    )
+    desk.step("import 1,201 lines and a byte", Call::Import(&good))
 }
 
-const MOST: usize = usize::MAX;
+const NUMBERS: [(&str, Call<'static>); 7] = [
+    ("strike 0", Call::Strike(0)),
+    ("strike 3", Call::Strike(3)),
+    ("strike the largest", Call::Strike(usize::MAX)),
+    ("replace 0", Call::Replace(0, DKK)),
+    ("replace 3", Call::Replace(3, DKK)),
+    ("replace the largest", Call::Replace(usize::MAX, DKK)),
+    ("replace 3 by a bad line", Call::Replace(3, BAD)),
+];
 
-fn numbers(rt: HostRuntime, set: &LoadedSet, desk: &mut Desk) -> io::Result<()> {
-    step(rt, set, desk, "strike 0", strike(0))?;
-    step(rt, set, desk, "strike 3", strike(3))?;
-    step(rt, set, desk, "strike the largest", strike(MOST))?;
-    step(rt, set, desk, "replace 0", Call::Replace(0, DKK))?;
-    step(rt, set, desk, "replace 3", Call::Replace(3, DKK))?;
-    step(
-        rt,
-        set,
-        desk,
-        "replace the largest",
-        Call::Replace(MOST, DKK),
-    )?;
-    step(
-        rt,
-        set,
-        desk,
-        "replace 3 by a bad line",
-        Call::Replace(3, BAD),
-    )
-}
-
-fn of_a_new_draft(rt: HostRuntime, set: &LoadedSet) -> io::Result<()> {
-    let mut desk = new_desk(rt.alloc(), 140, 6, 80)?;
-    println!(rt; "Refused by a new draft")?;
-    step(rt, set, &mut desk, "strike 1", strike(1))?;
-    step(rt, set, &mut desk, "replace 1", Call::Replace(1, DKK))?;
-    step(rt, set, &mut desk, "undo", undo())
-}
+const OF_A_NEW_DRAFT: [(&str, Call<'static>); 3] = [
+    ("strike 1", Call::Strike(1)),
+    ("replace 1", Call::Replace(1, DKK)),
+    ("undo", Call::Undo),
+];
 
 pub(crate) fn refused(rt: HostRuntime, set: &LoadedSet) -> io::Result<()> {
-    let mut desk = two_lines(rt.alloc(), set)?;
+    // A draft of two lines, which has room for every change.
+    let mut desk = Desk::new(rt, set, 140, 6, 80)?;
+    let _ = desk.call(Call::Import(TWO_LINES));
     println!(rt; "Refused lines")?;
-    added(rt, set, &mut desk)?;
-    replaced(rt, set, &mut desk)?;
+    each(&mut desk, "add", &BAD_LINES, Call::Add)?;
+    each(
+        &mut desk,
+        "replace 2 by",
+        &BAD_LINES,
+        |line| Call::Replace(2, line),
+    )?;
     println!(rt; "Refused deliveries")?;
-    delivered(rt, set, &mut desk)?;
-    deliveries(rt, set, &mut desk)?;
-    long_deliveries(rt, set, &mut desk)?;
+    delivered(&mut desk)?;
+    each(&mut desk, "import", &BAD_DELIVERIES, Call::Import)?;
+    long_deliveries(&mut desk)?;
     println!(rt; "Refused numbers")?;
-    numbers(rt, set, &mut desk)?;
-    of_a_new_draft(rt, set)?;
+    desk.steps(&NUMBERS)?;
+    println!(rt; "Refused by a new draft")?;
+    Desk::new(rt, set, 140, 6, 80)?.steps(&OF_A_NEW_DRAFT)?;
     println!(rt; "The draft that refused all this")?;
-    step(rt, set, &mut desk, "undo", undo())
+    desk.step("undo", Call::Undo)
 }

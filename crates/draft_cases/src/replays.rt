@@ -1,7 +1,7 @@
 // Lists of calls, and undo as often as it is accepted.
-use crate::desk::{Desk, FREE, new_desk};
+use crate::desk::{Desk, FREE, front, overwrite};
 use crate::sample::{A, BAD, DKK, EUR, ONE_LINE, THREE};
-use crate::tell::{tell_file, tell_refusal, tell_yes};
+use crate::tell::tell_yes;
 use runs::call::Call;
 use runs::replay::{Replayed, replay};
 use runs::rewind::rewind;
@@ -29,72 +29,69 @@ const CALLS: [Call<'static>; 18] = [
     Call::Strike(1),
 ];
 
-// The calls one by one, and how many were accepted.
-fn one_by_one(set: &LoadedSet, desk: &mut Desk) -> usize {
-    let mut accepted: usize = 0;
-    for call in CALLS {
-        if desk.call(set, call).is_ok() {
-            accepted = accepted.saturating_add(1);
-        }
+impl Desk<'_> {
+    // Replays the calls over all memory, and answers how many were accepted.
+    fn replay(&mut self, calls: &[Call<'_>]) -> usize {
+        let Replayed { draft, accepted } = replay(
+            self.set,
+            &mut self.file,
+            &mut self.rows,
+            &mut self.kept,
+            calls,
+        );
+        self.draft = draft;
+        accepted
     }
-    accepted
 }
 
-fn played(rt: HostRuntime, set: &LoadedSet, calls: &[Call<'_>]) -> io::Result<Desk> {
-    let mut desk = new_desk(rt.alloc(), 112, 4, 60)?;
-    let Replayed { draft, accepted } = replay(
-        set,
-        &mut desk.file,
-        &mut desk.rows,
-        &mut desk.kept,
-        calls,
-    );
-    desk.draft = draft;
-    let all = calls.len();
-    println!(rt; "replay: accepted {accepted} of {all}")?;
-    tell_file(rt, &desk)?;
+fn played<'a>(rt: HostRuntime, set: &'a LoadedSet, calls: &[Call<'_>]) -> io::Result<Desk<'a>> {
+    let mut desk = Desk::new(rt, set, 112, 4, 60)?;
+    let accepted = desk.replay(calls);
+    println!(rt; "replay: accepted {accepted} of {}", calls.len())?;
+    desk.tell_file()?;
     Ok(desk)
 }
 
-fn rewound(rt: HostRuntime, desk: &mut Desk, file: usize) -> io::Result<()> {
-    let n = file.min(desk.file.len());
+// Rewinds in so many file bytes.
+fn rewound(desk: &mut Desk<'_>, file: usize) -> io::Result<()> {
     let end = rewind(
         &mut desk.draft,
-        &mut desk.file[0..n],
+        front(&mut desk.file, file),
         &desk.rows,
         &desk.kept,
     );
-    let undone = end.undone;
-    print!(rt; "rewind: undone {undone}, then ")?;
-    tell_refusal(rt, end.refusal)?;
-    println!(rt; "")?;
-    tell_file(rt, desk)
+    println!(desk.rt; "rewind: undone {}, then {}", end.undone, end.refusal)?;
+    desk.tell_file()
 }
 
-fn compared(rt: HostRuntime, set: &LoadedSet, desk: &mut Desk) -> io::Result<()> {
-    let mut other = new_desk(rt.alloc(), 112, 4, 60)?;
-    let accepted = one_by_one(set, &mut other);
-    println!(rt; "one by one: accepted {accepted} of 18")?;
-    tell_file(rt, &other)?;
-    let photo = other.photo(rt.alloc())?;
-    tell_yes(rt, "  the same memory and counts", desk.is_as(&photo))
+// The calls one by one, against the desk on which they were played.
+fn compared(desk: &mut Desk<'_>) -> io::Result<()> {
+    let mut other = Desk::new(desk.rt, desk.set, 112, 4, 60)?;
+    let accepted = CALLS
+        .into_iter()
+        .filter(|call| other.call(*call).is_ok())
+        .count();
+    println!(desk.rt; "one by one: accepted {accepted} of 18")?;
+    other.tell_file()?;
+    let same = desk.photo()? == other.photo()?;
+    tell_yes(desk.rt, "  the same memory and counts", same)
 }
 
 pub(crate) fn lists_of_calls(rt: HostRuntime, set: &LoadedSet) -> io::Result<()> {
     println!(rt; "Lists of calls")?;
     let mut desk = played(rt, set, &CALLS)?;
-    compared(rt, set, &mut desk)?;
-    rewound(rt, &mut desk, 112)?;
+    compared(&mut desk)?;
+    rewound(&mut desk, 112)?;
     println!(rt; "With too little file memory to undo")?;
     let mut desk = played(rt, set, &CALLS)?;
-    rewound(rt, &mut desk, 55)?;
-    rewound(rt, &mut desk, 27)?;
-    rewound(rt, &mut desk, 56)?;
+    rewound(&mut desk, 55)?;
+    rewound(&mut desk, 27)?;
+    rewound(&mut desk, 56)?;
     println!(rt; "With a row overwritten")?;
     let mut desk = played(rt, set, &CALLS)?;
-    desk.write_row(1, FREE);
-    rewound(rt, &mut desk, 112)?;
+    overwrite(&mut desk.rows, 1, FREE);
+    rewound(&mut desk, 112)?;
     println!(rt; "With no calls")?;
     let mut desk = played(rt, set, &[])?;
-    rewound(rt, &mut desk, 112)
+    rewound(&mut desk, 112)
 }

@@ -1,6 +1,4 @@
 // Lines of the small set: a record is UBT99900, an amount and a currency, 26 bytes.
-use runs::call::Call;
-
 pub(crate) const DKK: &[u8] = b"UBT99900000000000017525DKK";
 
 pub(crate) const EUR: &[u8] = b"UBT99900000000000020000EUR";
@@ -17,12 +15,3 @@ pub(crate) const THREE: &[u8] =
 pub(crate) const ONE_LINE: &[u8] = b"UBT99900000000000017525DKK\r\n";
 
 pub(crate) const TWO_LINES: &[u8] = b"UBT99900000000000017525DKK\r\nUBT99900000000000020000EUR\r\n";
-
-// The two calls that hand in no bytes.
-pub(crate) fn strike(n: usize) -> Call<'static> {
-    Call::Strike(n)
-}
-
-pub(crate) fn undo() -> Call<'static> {
-    Call::Undo
-}

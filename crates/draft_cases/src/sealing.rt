@@ -1,8 +1,7 @@
 // Sealing a draft.
-use crate::desk::{Desk, new_desk};
-use crate::sample::{DKK, TWO_LINES, strike, undo};
+use crate::desk::Desk;
+use crate::sample::{DKK, TWO_LINES};
 use crate::shown::Shown;
-use crate::tell::{step, tell_file, tell_refusal};
 use drafts::draft::Draft;
 use drafts::sealed::{Sealed, Unsealed};
 use runs::call::Call;
@@ -11,51 +10,41 @@ use strips::loaded_set::LoadedSet;
 
 fn tell_show(rt: HostRuntime, sealed: &Sealed, file: &[u8], n: usize) -> io::Result<()> {
     let n = n.min(file.len());
-    print!(rt; "  show in {n} bytes: ")?;
-    match sealed.show(&file[0..n]) {
-        Ok(bytes) => {
-            let shown = Shown(bytes);
-            println!(rt; "{shown}")
-        }
-        Err(e) => {
-            tell_refusal(rt, e)?;
-            println!(rt; "")
-        }
+    match sealed.show(&file[..n]) {
+        Ok(bytes) => println!(rt; "  show in {n} bytes: {}", Shown(bytes)),
+        Err(e) => println!(rt; "  show in {n} bytes: {e}"),
     }
 }
 
 // Seals the draft of the desk. Where that is refused, the draft lies there again.
-fn seal(rt: HostRuntime, desk: &mut Desk, what: &str) -> io::Result<()> {
-    print!(rt; "{what}: ")?;
+fn seal(desk: &mut Desk<'_>, what: &str) -> io::Result<()> {
     let draft = std::mem::replace(&mut desk.draft, Draft::new());
     match draft.seal() {
         Ok(sealed) => {
-            println!(rt; "sealed")?;
-            tell_show(rt, &sealed, &desk.file, 100)?;
-            tell_show(rt, &sealed, &desk.file, 28)?;
-            tell_show(rt, &sealed, &desk.file, 27)?;
-            tell_show(rt, &sealed, &desk.file, 0)
+            println!(desk.rt; "{what}: sealed")?;
+            for n in [100, 28, 27, 0] {
+                tell_show(desk.rt, &sealed, &desk.file, n)?;
+            }
+            Ok(())
         }
         Err(Unsealed { refusal, draft }) => {
             desk.draft = draft;
-            tell_refusal(rt, refusal)?;
-            println!(rt; "")
+            println!(desk.rt; "{what}: {refusal}")
         }
     }
 }
 
 pub(crate) fn sealing(rt: HostRuntime, set: &LoadedSet) -> io::Result<()> {
     println!(rt; "Sealing")?;
-    let mut desk = new_desk(rt.alloc(), 100, 5, 60)?;
-    seal(rt, &mut desk, "seal a new draft")?;
-    step(rt, set, &mut desk, "add", Call::Add(DKK))?;
-    step(rt, set, &mut desk, "undo", undo())?;
-    seal(rt, &mut desk, "seal after undo")?;
-    step(rt, set, &mut desk, "import", Call::Import(TWO_LINES))?;
-    step(rt, set, &mut desk, "strike 1", strike(1))?;
-    step(rt, set, &mut desk, "strike 1", strike(1))?;
-    seal(rt, &mut desk, "seal with every line struck")?;
-    step(rt, set, &mut desk, "undo", undo())?;
-    tell_file(rt, &desk)?;
-    seal(rt, &mut desk, "seal")
+    let mut desk = Desk::new(rt, set, 100, 5, 60)?;
+    seal(&mut desk, "seal a new draft")?;
+    desk.step("add", Call::Add(DKK))?;
+    desk.step("undo", Call::Undo)?;
+    seal(&mut desk, "seal after undo")?;
+    desk.step("import", Call::Import(TWO_LINES))?;
+    desk.steps(&[("strike 1", Call::Strike(1)); 2])?;
+    seal(&mut desk, "seal with every line struck")?;
+    desk.step("undo", Call::Undo)?;
+    desk.tell_file()?;
+    seal(&mut desk, "seal")
 }

@@ -1,17 +1,16 @@
 // Memory that is shorter than what the draft uses of it.
-use crate::desk::{Desk, Sizes, new_desk};
-use crate::sample::{BAD, DKK, ONE_LINE, THREE, strike};
-use crate::tell::{step, tell_refusal};
+use crate::desk::{Desk, Sizes};
+use crate::sample::{BAD, DKK, ONE_LINE, THREE};
 use runs::call::Call;
-use std::alloc::{AllocError, Global};
+use std::alloc::AllocError;
 use std::io;
 use strips::loaded_set::LoadedSet;
 
 // Three lines came in and the second was struck: 56 bytes, 2 rows and 26 kept bytes are used.
-pub(crate) fn second_struck(heap: Global, set: &LoadedSet) -> Result<Desk, AllocError> {
-    let mut desk = new_desk(heap, 140, 6, 80)?;
-    let _ = desk.call(set, Call::Import(THREE));
-    let _ = desk.call(set, strike(2));
+pub(crate) fn second_struck(rt: HostRuntime, set: &LoadedSet) -> Result<Desk<'_>, AllocError> {
+    let mut desk = Desk::new(rt, set, 140, 6, 80)?;
+    let _ = desk.call(Call::Import(THREE));
+    let _ = desk.call(Call::Strike(2));
     Ok(desk)
 }
 
@@ -29,35 +28,27 @@ const CALLS: [(&str, Call<'static>); 8] = [
 // Every call with so much memory, on a draft of its own.
 fn calls_with(rt: HostRuntime, set: &LoadedSet, lent: Sizes) -> io::Result<()> {
     for (what, call) in CALLS {
-        let mut desk = second_struck(rt.alloc(), set)?;
+        let mut desk = second_struck(rt, set)?;
         desk.lent = lent;
-        step(rt, set, &mut desk, what, call)?;
+        desk.step(what, call)?;
     }
     Ok(())
-}
-
-fn tell_show(rt: HostRuntime, desk: &Desk, n: usize) -> io::Result<()> {
-    let n = n.min(desk.file.len());
-    print!(rt; "show in {n} file bytes: ")?;
-    match desk.draft.show(&desk.file[0..n]) {
-        Ok(bytes) => {
-            let used = bytes.len();
-            println!(rt; "{used} bytes")
-        }
-        Err(e) => {
-            tell_refusal(rt, e)?;
-            println!(rt; "")
-        }
-    }
 }
 
 // Every call on a new draft with no memory at all.
 fn calls_with_none(rt: HostRuntime, set: &LoadedSet) -> io::Result<()> {
     for (what, call) in CALLS {
-        let mut desk = new_desk(rt.alloc(), 0, 0, 0)?;
-        step(rt, set, &mut desk, what, call)?;
+        Desk::new(rt, set, 0, 0, 0)?.step(what, call)?;
     }
     Ok(())
+}
+
+fn tell_show(desk: &Desk<'_>, n: usize) -> io::Result<()> {
+    let n = n.min(desk.file.len());
+    match desk.draft.show(&desk.file[..n]) {
+        Ok(bytes) => println!(desk.rt; "show in {n} file bytes: {} bytes", bytes.len()),
+        Err(e) => println!(desk.rt; "show in {n} file bytes: {e}"),
+    }
 }
 
 // How many file bytes, rows and kept bytes are lent: too few of one of them, just enough, and more.
@@ -76,9 +67,9 @@ pub(crate) fn short_memory(rt: HostRuntime, set: &LoadedSet) -> io::Result<()> {
     }
     println!(rt; "A new draft with no memory")?;
     calls_with_none(rt, set)?;
-    let desk = second_struck(rt.alloc(), set)?;
-    tell_show(rt, &desk, 0)?;
-    tell_show(rt, &desk, 55)?;
-    tell_show(rt, &desk, 56)?;
-    tell_show(rt, &desk, 140)
+    let desk = second_struck(rt, set)?;
+    for n in [0, 55, 56, 140] {
+        tell_show(&desk, n)?;
+    }
+    Ok(())
 }

@@ -1,7 +1,8 @@
-// Bytes as they are shown to a reader.
+// File bytes as they are shown to a reader.
 use std::fmt;
 
-// Each byte is the character of its number, but for CR and LF, which are written \r and \n.
+// Each byte is the character of its number, but for CR and LF, which are written \r and \n: a file
+// stands in one line of the output.
 #[derive(Clone, Copy)]
 pub struct Shown<'a>(pub &'a [u8]);
 
@@ -11,7 +12,7 @@ impl fmt::Display for Shown<'_> {
             match *b {
                 b'\r' => f.write_str("\\r")?,
                 b'\n' => f.write_str("\\n")?,
-                c => f.write_char(c as char)?,
+                c => f.write_char(char::from(c))?,
             }
         }
         Ok(())

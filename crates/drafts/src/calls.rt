@@ -1,15 +1,16 @@
-// The four changes of a draft. Each asks for all that it needs before it alters anything.
+// The four changes of a draft. Each asks for all that it needs before it alters anything. They ask in
+// one order but of different things: one function for all would take each difference as a parameter.
 ghost use Rattle.std.specs.Prelude.{◌≡◌};
 ghost use Rattle.changes.specs.Calls.{delivered, importing, adding, replacing, striking};
 ghost use Rattle.drafts.specs.Drafts.{Meets};
 
 use crate::draft::Draft;
 use crate::moves::{append, splice};
-use crate::refusals::{EMPTY_DELIVERY, NO_SUCH_LINE};
+use crate::refusals::refused;
 use crate::room::few;
-use basics::refusal::Refusal;
-use changes::change_row::{AT_THE_END, ChangeRow, REPLACED, STRUCK};
-use changes::places::place_of;
+use basics::refusal::{Layer, Reason, Refusal};
+use changes::change_row::{ChangeKind, ChangeRow};
+use changes::places::{LinePlace, place_of};
 use files::cut::count_lines;
 use files::judge_file::judge_file;
 use layouts::set::LayoutSet;
@@ -19,8 +20,8 @@ use lines::judge::judge;
 fn delivered_lines<S: LayoutSet>(set: &S, delivery: &[u8]) -> Result<usize, Refusal>
     ensures { result ≡ delivered (S.meaning set.now) delivery.now }
 {
-    if delivery.len() == 0 {
-        return Err(EMPTY_DELIVERY);
+    if delivery.is_empty() {
+        return Err(Refusal::new(Reason::EmptyFile, Layer::Files));
     }
     judge_file(set, delivery)
 }
@@ -41,7 +42,7 @@ impl Draft {
         let more = delivered_lines(set, delivery)?;
         few(count_lines(&file[0..self.file]).lines, more)?;
         self.room(file, rows, kept, self.file, delivery.len(), 0)?;
-        self.note(rows, kept, AT_THE_END, 0, &[]);
+        self.note(rows, kept, ChangeKind::AtTheEnd, 0, &[]);
         self.file = append(file, self.file, delivery);
         Ok(())
     }
@@ -61,7 +62,7 @@ impl Draft {
         judge(set, line)?;
         few(count_lines(&file[0..self.file]).lines, 1)?;
         self.room(file, rows, kept, self.file, line.len() + 2, 0)?;
-        self.note(rows, kept, AT_THE_END, 0, &[]);
+        self.note(rows, kept, ChangeKind::AtTheEnd, 0, &[]);
         let end = append(file, self.file, line);
         self.file = append(file, end, b"\r\n");
         Ok(())
@@ -81,13 +82,12 @@ impl Draft {
     {
         self.fits(file, rows, kept)?;
         let Some(place) = place_of(&file[0..self.file], n) else {
-            return Err(NO_SUCH_LINE);
+            return Err(refused(Reason::NoSuchLine));
         };
-        let at = place.at;
-        let size = place.size;
+        let LinePlace { at, size } = place;
         judge(set, line)?;
         self.room(file, rows, kept, self.file - size, line.len(), size)?;
-        self.note(rows, kept, REPLACED, n, &file[at..at + size]);
+        self.note(rows, kept, ChangeKind::Replaced, n, &file[at..at + size]);
         self.file = splice(file, self.file, at, size, line);
         Ok(())
     }
@@ -104,12 +104,11 @@ impl Draft {
     {
         self.fits(file, rows, kept)?;
         let Some(place) = place_of(&file[0..self.file], n) else {
-            return Err(NO_SUCH_LINE);
+            return Err(refused(Reason::NoSuchLine));
         };
-        let at = place.at;
-        let size = place.size;
+        let LinePlace { at, size } = place;
         self.room(file, rows, kept, self.file - (size + 2), 0, size)?;
-        self.note(rows, kept, STRUCK, n, &file[at..at + size]);
+        self.note(rows, kept, ChangeKind::Struck, n, &file[at..at + size]);
         self.file = splice(file, self.file, at, size + 2, &[]);
         Ok(())
     }

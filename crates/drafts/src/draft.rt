@@ -2,11 +2,13 @@
 ghost use Rattle.std.specs.Prelude.{◌≡◌, ◌<◌, ◌≤◌, length, take, MatchResult};
 ghost use Rattle.changes.specs.Calls.{draft_refusal};
 
-use crate::refusals::MEMORY_SHORTER_THAN_USED;
-use basics::refusal::Refusal;
+use crate::refusals::refused;
+use basics::refusal::{Reason, Refusal};
 
 // How many file bytes, change rows and kept bytes are used. The used file bytes are the draft's
-// file. Each change that stands has a row, and a kept line if it replaced or struck one.
+// file. Each change that stands has a row, and a kept line if it replaced or struck one. By rule the
+// memory is lent to each call by itself: undo only reads rows and kept bytes, and one struct of all
+// three would ask its caller for more.
 #[derive(Drop)]
 pub struct Draft {
     pub(crate) file: usize,
@@ -19,7 +21,7 @@ pub(crate) fn used_part(file: &[u8], used: usize) -> Result<&[u8], Refusal>
     ensures { MatchResult result (λ s. (used ≤ length file.now) × (s.now ≡ take used file.now)) (λ e. (length file.now < used) × (e ≡ draft_refusal 31)) }
 {
     if used > file.len() {
-        return Err(MEMORY_SHORTER_THAN_USED);
+        return Err(refused(Reason::MemoryShorterThanUsed));
     }
     Ok(&file[0..used])
 }

@@ -1,4 +1,5 @@
-// Bytes put and moved in lent memory.
+// Bytes put and moved in lent memory. The memory is the caller's and the count of used bytes the
+// draft's, so no type holds both.
 ghost use Rattle.std.specs.Prelude.{◌≡◌, ◌+◌, ◌≤◌, ◌++◌, length, take, drop};
 
 // Puts bytes behind the used ones, and answers how many are used then.

@@ -1,15 +1,16 @@
 // What a change asks of a draft before it alters anything, and the row that it writes.
 ghost use Rattle.std.specs.Prelude.{◌≡◌, ◌+◌, ◌<◌, ◌≤◌, [], ◌∷◌, ◌++◌, length, take, OnOk, nat_le};
+ghost use Rattle.changes.specs.Kinds.{number_of};
 ghost use Rattle.changes.specs.States.{within, contents};
 ghost use Rattle.changes.specs.Calls.{required, rooms, row};
 ghost use Rattle.drafts.specs.Drafts.{state};
 
 use crate::draft::Draft;
 use crate::moves::append;
-use crate::refusals::{DRAFT_TOO_LONG, MEMORY_SHORTER_THAN_USED, NO_CHANGE_ROOM, NO_FILE_ROOM};
-use basics::refusal::Refusal;
+use crate::refusals::refused;
+use basics::refusal::{Reason, Refusal};
 use basics::rows;
-use changes::change_row::ChangeRow;
+use changes::change_row::{ChangeKind, ChangeRow};
 
 // A draft has at most so many lines.
 const MOST_LINES: usize = 1200;
@@ -19,7 +20,7 @@ pub(crate) fn few(lines: usize, more: usize) -> Result<(), Refusal>
     ensures { result ≡ required (nat_le (lines + more) 1200) 33 }
 {
     if more > MOST_LINES || lines > MOST_LINES - more {
-        return Err(DRAFT_TOO_LONG);
+        return Err(refused(Reason::DraftTooLong));
     }
     Ok(())
 }
@@ -31,7 +32,7 @@ impl Draft {
         ensures fit { OnOk result ((self.now.file ≤ length file.now) × (self.now.rows ≤ length rows.now) × (self.now.kept ≤ length kept.now)) }
     {
         if self.file > file.len() || self.rows > rows.len() || self.kept > kept.len() {
-            return Err(MEMORY_SHORTER_THAN_USED);
+            return Err(refused(Reason::MemoryShorterThanUsed));
         }
         Ok(())
     }
@@ -52,10 +53,10 @@ impl Draft {
         ensures fit { OnOk result ((base + more ≤ length file.now) × (self.now.rows < length rows.now) × (self.now.kept + old ≤ length kept.now)) }
     {
         if more > file.len() - base {
-            return Err(NO_FILE_ROOM);
+            return Err(refused(Reason::NoFileRoom));
         }
         if self.rows >= rows.len() || old > kept.len() - self.kept {
-            return Err(NO_CHANGE_ROOM);
+            return Err(refused(Reason::NoChangeRoom));
         }
         Ok(())
     }
@@ -65,26 +66,24 @@ impl Draft {
         &mut self,
         rows: &mut [ChangeRow],
         kept: &mut [u8],
-        kind: u8,
+        kind: ChangeKind,
         line: usize,
         old: &[u8],
     )
         requires { (self.old.rows < length rows.old) × (self.old.kept + length old.now ≤ length kept.old) }
         ensures file { self.new.file ≡ self.old.file }
         ensures counts { (self.new.rows ≡ self.old.rows + 1) × (self.new.kept ≡ self.old.kept + length old.now) }
-        ensures rows { take self.new.rows rows.new ≡ take self.old.rows rows.old ++ row kind line self.old.file (length old.now) ∷ [] }
+        ensures rows { take self.new.rows rows.new ≡ take self.old.rows rows.old ++ row (number_of kind) line self.old.file (length old.now) ∷ [] }
         ensures kept { take self.new.kept kept.new ≡ take self.old.kept kept.old ++ old.now }
     {
         let row = ChangeRow {
-            kind,
+            kind: kind.number(),
             line,
             before: self.file,
             kept: old.len(),
         };
-        self.rows = match rows::put(rows, self.rows, row) {
-            Ok(used) => used,
-            Err(_) => unreachable(),
-        };
+        // `room` has asked for a free row.
+        self.rows = rows::put(rows, self.rows, row).unwrap_or(self.rows);
         self.kept = append(kept, self.kept, old);
     }
 }

@@ -4,8 +4,8 @@ ghost use Rattle.changes.specs.Calls.{draft_refusal};
 ghost use Rattle.drafts.specs.Seals.{sealed_of};
 
 use crate::draft::{Draft, used_part};
-use crate::refusals::NOTHING_TO_SEAL;
-use basics::refusal::Refusal;
+use crate::refusals::refused;
+use basics::refusal::{Reason, Refusal};
 
 // How many file bytes are used. The draft is gone, and with it undo.
 #[derive(Drop)]
@@ -27,7 +27,7 @@ impl Draft {
     {
         if self.file == 0 {
             return Err(Unsealed {
-                refusal: NOTHING_TO_SEAL,
+                refusal: refused(Reason::NothingToSeal),
                 draft: self,
             });
         }

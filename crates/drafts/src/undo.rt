@@ -6,10 +6,10 @@ ghost use Rattle.changes.specs.Backs.{TakenBack, Stuck};
 
 use crate::draft::Draft;
 use crate::moves::splice;
-use crate::refusals::{NO_FILE_ROOM, NOTHING_TO_UNDO, ROW_DOES_NOT_FIT};
-use basics::refusal::Refusal;
-use changes::change_row::{AT_THE_END, ChangeRow, REPLACED, STRUCK};
-use changes::places::{behind_lines, place_of};
+use crate::refusals::refused;
+use basics::refusal::{Reason, Refusal};
+use changes::change_row::{ChangeKind, ChangeRow};
+use changes::places::{LinePlace, behind_lines, place_of};
 
 // Takes a change back from the used file bytes, and answers how many are used then. `old` is the
 // line that the change kept.
@@ -17,38 +17,37 @@ fn take_back(file: &mut [u8], used: usize, change: ChangeRow, old: &[u8]) -> Res
     requires { used ≤ length file.old }
     ensures { MatchResult result (TakenBack change old.now (take used file.old) file.old file.new) (Stuck change old.now (take used file.old) file.old file.new) }
 {
-    match change.kind {
-        AT_THE_END => {
+    match ChangeKind::try_from(change.kind) {
+        Ok(ChangeKind::AtTheEnd) => {
             if change.before > used {
-                return Err(ROW_DOES_NOT_FIT);
+                return Err(refused(Reason::RowDoesNotFit));
             }
             Ok(change.before)
         }
-        REPLACED => {
+        Ok(ChangeKind::Replaced) => {
             let Some(place) = place_of(&file[0..used], change.line) else {
-                return Err(ROW_DOES_NOT_FIT);
+                return Err(refused(Reason::RowDoesNotFit));
             };
-            let at = place.at;
-            let size = place.size;
+            let LinePlace { at, size } = place;
             if old.len() > file.len() - (used - size) {
-                return Err(NO_FILE_ROOM);
+                return Err(refused(Reason::NoFileRoom));
             }
             Ok(splice(file, used, at, size, old))
         }
-        STRUCK => {
+        Ok(ChangeKind::Struck) => {
             if change.line == 0 {
-                return Err(ROW_DOES_NOT_FIT);
+                return Err(refused(Reason::RowDoesNotFit));
             }
             let Some(at) = behind_lines(&file[0..used], change.line - 1) else {
-                return Err(ROW_DOES_NOT_FIT);
+                return Err(refused(Reason::RowDoesNotFit));
             };
             if old.len() + 2 > file.len() - used {
-                return Err(NO_FILE_ROOM);
+                return Err(refused(Reason::NoFileRoom));
             }
             let end = splice(file, used, at, 0, b"\r\n");
             Ok(splice(file, end, at, 0, old))
         }
-        _ => Err(ROW_DOES_NOT_FIT),
+        Err(_) => Err(refused(Reason::RowDoesNotFit)),
     }
 }
 
@@ -59,11 +58,11 @@ impl Draft {
     {
         self.fits(file, rows, kept)?;
         if self.rows == 0 {
-            return Err(NOTHING_TO_UNDO);
+            return Err(refused(Reason::NothingToUndo));
         }
         let row = rows[self.rows - 1];
         if row.kept > self.kept {
-            return Err(ROW_DOES_NOT_FIT);
+            return Err(refused(Reason::RowDoesNotFit));
         }
         let low = self.kept - row.kept;
         self.file = take_back(file, self.file, row, &kept[low..self.kept])?;

@@ -14,9 +14,6 @@ fn main(rt: HostRuntime) -> io::Result<()> {
     rt.stdin().read_to_end(&mut bytes)?;
     let mut out = [0u8; MOST];
     // The room is as long as the longest report, so that no report is refused.
-    let length = match report(&BuiltIn, &bytes, &mut out) {
-        Ok(length) => length,
-        Err(_) => 0,
-    };
-    rt.stdout().write_all(&out[0..length])
+    let length = report(&BuiltIn, &bytes, &mut out).unwrap_or(0);
+    rt.stdout().write_all(&out[..length])
 }

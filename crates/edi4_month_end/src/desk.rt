@@ -42,6 +42,7 @@ impl Desk {
         self.draft.show(&self.file)
     }
 
+    // Each call has a method of its own: so the steps read as a clerk's.
     pub(crate) fn import(&mut self, delivery: &[u8]) -> Result<(), Refusal> {
         self.draft.import(
             &BuiltIn,

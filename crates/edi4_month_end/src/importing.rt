@@ -1,9 +1,9 @@
 // The delivery is imported, and imported again once it is put right.
 use crate::correcting::{DIGITS, put_amount};
 use crate::desk::{CHANGES, Desk, FILE_BYTES, KEPT_BYTES};
-use crate::shown::Hundredths;
 use crate::telling::{tell_answer, tell_draft};
 use crate::trouble::Trouble;
+use basics::money::Hundredths;
 use basics::refusal::Refusal;
 use files::cut::count_lines;
 
@@ -11,9 +11,11 @@ use files::cut::count_lines;
 const MEANT: u64 = 988_800;
 
 fn open_the_draft(rt: HostRuntime, desk: &Desk, delivery: &[u8]) -> Result<(), Trouble> {
-    let lines = count_lines(delivery).lines;
-    let bytes = delivery.len();
-    println!(rt; "Month end: a delivery has come in, of {lines} lines and {bytes} bytes.")?;
+    println!(rt;
+        "Month end: a delivery has come in, of {} lines and {} bytes.",
+        count_lines(delivery).lines,
+        delivery.len()
+    )?;
     println!(rt;
         "The clerk opens a new draft, with room for {FILE_BYTES} file bytes, {CHANGES} changes and {KEPT_BYTES} kept bytes."
     )?;
@@ -27,16 +29,15 @@ fn import_again(
     delivery: &mut [u8],
     refusal: Refusal,
 ) -> Result<(), Trouble> {
-    if !put_amount(delivery, refusal, MEANT) {
-        return Err(Trouble::NotCorrected);
-    }
-    let number = refusal.reason.number();
-    let meant = Hundredths(MEANT);
-    println!(rt; "Number {number} says that an amount is zero. The customer meant {meant}.")?;
-    let byte = refusal.byte;
-    let line = refusal.line;
+    put_amount(delivery, refusal, MEANT)?;
     println!(rt;
-        "The {DIGITS} digits of that amount are put over the zeros, from byte {byte} of line {line}."
+        "Number {} says that an amount is zero. The customer meant {}.",
+        refusal.reason.number(),
+        Hundredths(MEANT)
+    )?;
+    println!(rt;
+        "The {DIGITS} digits of that amount are put over the zeros, from byte {} of line {}.",
+        refusal.byte, refusal.line
     )?;
     println!(rt; "The corrected delivery is imported.")?;
     let answer = desk.import(delivery);

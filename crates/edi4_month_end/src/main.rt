@@ -8,7 +8,6 @@ mod importing;
 mod payments;
 mod records;
 mod sealing;
-mod shown;
 mod steps;
 mod telling;
 mod trouble;

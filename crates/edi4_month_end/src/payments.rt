@@ -3,9 +3,10 @@ use crate::trouble::Trouble;
 use layouts::built_in::BuiltIn;
 use reading::read::read;
 use std::alloc::Global;
-use values::row::ValueRow;
+use values::row::{ValueRow, Values};
 use writing::write::write;
 
+// Fixed memory, as of a maker without a heap. Each sample program stands alone and shows its own.
 // More rows than any record of the built-in set has.
 const ROWS: usize = 140;
 
@@ -41,7 +42,11 @@ pub(crate) fn payment_like(
     bytes.extend_from_slice(currency)?;
     let mut payment = vec![in heap; 0; BYTES]?;
     let used = found.rows.min(ROWS);
-    let length = write(&BuiltIn, found.digits, &rows[0..used], &bytes, &mut payment)?;
+    let values = Values {
+        rows: &rows[..used],
+        bytes: &bytes,
+    };
+    let length = write(&BuiltIn, found.digits, &values, &mut payment)?;
     payment.truncate(length);
     Ok(payment)
 }

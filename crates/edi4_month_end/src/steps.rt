@@ -2,9 +2,9 @@
 use crate::desk::Desk;
 use crate::payments::payment_like;
 use crate::records::{line_of, tell_line};
-use crate::shown::Hundredths;
 use crate::telling::tell_answer;
 use crate::trouble::Trouble;
+use basics::money::Hundredths;
 use std::alloc::Global;
 
 // What the added payment pays.
@@ -21,23 +21,24 @@ fn payment_like_line(
     hundredths: u64,
     currency: &[u8],
 ) -> Result<Vec<u8>, Trouble> {
-    match line_of(desk.show()?, n) {
-        Some(line) => payment_like(heap, line, hundredths, currency),
-        None => Err(Trouble::NoLine(n)),
-    }
+    payment_like(heap, line_of(desk.show()?, n)?, hundredths, currency)
 }
 
 fn add_a_payment(rt: HostRuntime, desk: &mut Desk) -> Result<(), Trouble> {
-    let amount = Hundredths(ADDED);
-    println!(rt; "A payment is added: like line 1, but of {amount} EUR.")?;
+    println!(rt;
+        "A payment is added: like line 1, but of {} EUR.",
+        Hundredths(ADDED)
+    )?;
     let payment = payment_like_line(rt.alloc(), desk, 1, ADDED, b"EUR")?;
     let answer = desk.add(&payment);
     tell_answer(rt, desk, answer)
 }
 
 fn replace_a_payment(rt: HostRuntime, desk: &mut Desk) -> Result<(), Trouble> {
-    let amount = Hundredths(REPLACING);
-    println!(rt; "Line 1 is replaced: by a payment like line 3, but of {amount} DKK.")?;
+    println!(rt;
+        "Line 1 is replaced: by a payment like line 3, but of {} DKK.",
+        Hundredths(REPLACING)
+    )?;
     let payment = payment_like_line(rt.alloc(), desk, 3, REPLACING, b"DKK")?;
     let answer = desk.replace(1, &payment);
     tell_answer(rt, desk, answer)

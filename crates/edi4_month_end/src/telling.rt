@@ -1,33 +1,34 @@
 // What a call answered, and how the draft stands after it.
 use crate::desk::Desk;
-use crate::shown::Hundredths;
 use crate::trouble::Trouble;
+use basics::money::Hundredths;
 use basics::refusal::Refusal;
 use files::cut::count_lines;
 use files::total::total;
 use layouts::built_in::BuiltIn;
 use std::io;
 
+// With a word beside each number, for one who reads a sample.
 pub(crate) fn tell_refusal(rt: HostRuntime, e: Refusal) -> io::Result<()> {
-    let number = e.reason.number();
-    let layer = e.layer.number();
-    let line = e.line;
-    let field = e.field;
-    let byte = e.byte;
     println!(rt;
-        "    It is refused: number {number}, layer {layer}, line {line}, field {field}, byte {byte}."
+        "    It is refused: number {}, layer {}, line {}, field {}, byte {}.",
+        e.reason.number(),
+        e.layer.number(),
+        e.line,
+        e.field,
+        e.byte
     )
 }
 
 // The draft's lines and bytes, and its totals.
 pub(crate) fn tell_draft(rt: HostRuntime, desk: &Desk) -> Result<(), Trouble> {
     let file = desk.show()?;
-    let lines = count_lines(file).lines;
-    let bytes = file.len();
-    let kroner = Hundredths(total(&BuiltIn, file, b"DKK")?);
-    let euros = Hundredths(total(&BuiltIn, file, b"EUR")?);
     println!(rt;
-        "    The draft has {lines} lines in {bytes} bytes, and pays {kroner} DKK and {euros} EUR."
+        "    The draft has {} lines in {} bytes, and pays {} DKK and {} EUR.",
+        count_lines(file).lines,
+        file.len(),
+        Hundredths(total(&BuiltIn, file, b"DKK")?),
+        Hundredths(total(&BuiltIn, file, b"EUR")?)
     )?;
     Ok(())
 }

@@ -1,6 +1,7 @@
 // What ends the tour before its time: a refusal, a delivery that cannot be put right, a line that is
 // not there, or want of memory and what goes wrong outside of the program.
 use basics::refusal::Refusal;
+use drafts::sealed::Unsealed;
 use std::alloc::AllocError;
 use std::io;
 
@@ -14,6 +15,12 @@ pub(crate) enum Trouble {
 impl From<Refusal> for Trouble {
     fn from(e: Refusal) -> Trouble {
         Trouble::Refused(e)
+    }
+}
+
+impl From<Unsealed> for Trouble {
+    fn from(e: Unsealed) -> Trouble {
+        Trouble::Refused(e.refusal)
     }
 }
 

@@ -6,43 +6,45 @@ mod fields;
 mod names;
 mod own_set;
 mod record_values;
-mod shown;
 
 use crate::fields::{extent, tell_value};
 use crate::names::name_of;
 use basics::refusal::Refusal;
 use files::cut::line_end;
 use layouts::built_in::BuiltIn;
-use layouts::set::LayoutSet;
+use layouts::fields::fields_of;
 use lines::judge::judge;
 use std::io;
 use std::io::Read;
 
 // Every field of the line with its first place and what stands there.
 fn tell_fields(rt: HostRuntime, j: usize, line: &[u8]) -> io::Result<()> {
+    // A loop and no chain: the place moves on by each field's width.
     let mut place = 0;
-    for i in 1..65 {
-        let Some(f) = BuiltIn.field(j, i) else {
-            break;
-        };
-        let left = line.len() - place;
-        let width = extent(f, &line[place..]).min(left);
-        let end = place + width;
-        let first = place + 1;
-        let name = name_of(j, i);
-        print!(rt; "Field {i}, {name}, from place {first}, width {width}:")?;
-        tell_value(rt, f, place, &line[place..end])?;
-        place = end;
+    for (k, f) in fields_of(&BuiltIn, j).enumerate() {
+        let rest = &line[place..];
+        let width = extent(f, rest).min(rest.len());
+        print!(rt;
+            "Field {}, {}, from place {}, width {width}:",
+            k + 1,
+            name_of(j, k),
+            place + 1
+        )?;
+        tell_value(rt, f, place, &rest[..width])?;
+        place += width;
     }
     println!(rt; "The fields end with byte {place}, and so does the line.")
 }
 
+// The place of a refusal without its line, since a single line is judged.
 pub(crate) fn tell_refusal(rt: HostRuntime, e: Refusal) -> io::Result<()> {
-    let number = e.reason.number();
-    let layer = e.layer.number();
-    let field = e.field;
-    let byte = e.byte;
-    println!(rt; "It is refused: number {number}, layer {layer}, field {field}, byte {byte}.")
+    println!(rt;
+        "It is refused: number {}, layer {}, field {}, byte {}.",
+        e.reason.number(),
+        e.layer.number(),
+        e.field,
+        e.byte
+    )
 }
 
 // The verdict on a line, with its fields where it is accepted.
@@ -65,11 +67,11 @@ fn main(rt: HostRuntime) -> io::Result<()> {
     println!(rt; "A payment came in: a line of {end} bytes.")?;
     line.truncate(end);
     tell_line(rt, &line)?;
-    if line.len() > 60 {
+    let mut damaged = line.clone()?;
+    if let Some(byte) = damaged.get_mut(60) {
         println!(rt; "The same payment with byte 61 damaged, d for D:")?;
-        line[60] = b'd';
-        tell_line(rt, &line)?;
-        line[60] = b'D';
+        *byte = b'd';
+        tell_line(rt, &damaged)?;
     }
     record_values::change_the_amount(rt, &line)?;
     own_set::judge_with_an_own_set(rt)

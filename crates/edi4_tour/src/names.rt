@@ -24,11 +24,10 @@ const PAYMENT: [&str; 22] = [
     "the debtor's identification of the payment",
 ];
 
-// What field i of layout j is for; only the payment's fields have names here.
-pub(crate) fn name_of(j: usize, i: usize) -> &'static str {
-    if j == 1 && i >= 1 && i <= 22 {
-        PAYMENT[i - 1]
-    } else {
-        "field"
+// What the field at index k of layout j is for; only the payment's fields have names here.
+pub(crate) fn name_of(j: usize, k: usize) -> &'static str {
+    if j != 1 {
+        return "field";
     }
+    PAYMENT.get(k).copied().unwrap_or("field")
 }

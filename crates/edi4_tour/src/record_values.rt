@@ -1,12 +1,12 @@
 // The values of a payment: read, one of them changed, and written back.
-use crate::shown::Shown;
 use crate::tell_refusal;
 use layouts::built_in::BuiltIn;
 use reading::read::read;
 use std::io;
-use values::row::ValueRow;
+use values::row::{ValueRow, Values};
 use writing::write::write;
 
+// Fixed memory, as of a maker without a heap. Each sample program stands alone and shows its own.
 // More rows than any payment has.
 const ROWS: usize = 140;
 
@@ -24,15 +24,14 @@ const AMOUNT: usize = 2;
 
 // Where two lines differ.
 fn tell_difference(rt: HostRuntime, line: &[u8], other: &[u8]) -> io::Result<()> {
-    let pairs = line.iter().zip(other).enumerate();
-    for (k, (a, b)) in pairs {
-        if *a != *b {
+    for (k, (was, is)) in line.iter().zip(other).enumerate() {
+        if was != is {
             let place = k.saturating_add(1);
-            let was = [*a];
-            let is = [*b];
-            let was = Shown(&was);
-            let is = Shown(&is);
-            println!(rt; "    byte {place}: {was} became {is}")?;
+            println!(rt;
+                "    byte {place}: {} became {}",
+                char::from(*was),
+                char::from(*is)
+            )?;
         }
     }
     Ok(())
@@ -45,20 +44,22 @@ pub(crate) fn change_the_amount(rt: HostRuntime, line: &[u8]) -> io::Result<()> 
         Ok(found) => found,
         Err(e) => return tell_refusal(rt, e),
     };
-    let digits = found.digits;
     let used = found.rows.min(ROWS);
-    println!(rt; "The payment has {used} values, and its record is {digits:05}.")?;
+    println!(rt;
+        "The payment has {used} values, and its record is {:05}.",
+        found.digits
+    )?;
     let amount = rows[AMOUNT].number;
     let twice = amount.saturating_mul(2);
-    rows[AMOUNT] = ValueRow {
-        number: twice,
-        place: 0,
-        length: 0,
-    };
+    rows[AMOUNT].number = twice;
     println!(rt; "Its amount of {amount} becomes {twice}, and it is written back:")?;
     let mut out = [0u8; BYTES];
-    match write(&BuiltIn, digits, &rows[0..used], line, &mut out) {
-        Ok(n) => tell_difference(rt, line, &out[0..n.min(BYTES)]),
+    let values = Values {
+        rows: &rows[..used],
+        bytes: line,
+    };
+    match write(&BuiltIn, found.digits, &values, &mut out) {
+        Ok(n) => tell_difference(rt, line, &out[..n.min(BYTES)]),
         Err(e) => tell_refusal(rt, e),
     }
 }

@@ -1,7 +1,7 @@
 -- Laws of cutting bytes into lines.
-use Rattle.std.proofs.Common.{◌≡◌, ℕ, zero, suc, ◌+◌, ◌-◌, ◌<◌, ◌≤◌, true, false, cond, eqb, List, [], ◌∷◌, ◌++◌, length, get_or, take, drop, Some, None, Option, sym, refl, ap, ◌∙◌, subst, ⊎_elim, append_assoc, add-zero, zero-add, arith, length-append, length-drop}
+use Rattle.std.proofs.Common.{◌≡◌, ℕ, zero, suc, ◌+◌, ◌-◌, ◌<◌, ◌≤◌, true, false, cond, eqb, List, [], ◌∷◌, ◌++◌, length, get_or, take, drop, Some, None, Option, sym, refl, ap, ◌∙◌, subst, append_assoc, arith, length-append, length-drop}
 use Rattle.std.proofs.lemmas.List.{drop_more, drop-drop, take_at, drop_at, length-take-le, take_rest}
-use Rattle.std.proofs.lemmas.Bool.{and_parts, and_from, and_left, and_right, eqb-true, eq-eqb, ne_eqb, cases_eq, cond-true, cond-false}
+use Rattle.std.proofs.lemmas.Bool.{and_parts, and_right, eqb-true, cond-true, cond-false}
 use Rattle.std.specs.Option.{option_map}
 use Rattle.basics.proofs.ByteLaws.{absurd-none, same_some}
 use Rattle.files.specs.Lines.{ends, line_end, onto, lines_of, written, rest_of, Whole, Cutting}
@@ -201,36 +201,6 @@ module _ (f : List ℕ) (i : ℕ) where
   two : i + 1 < length f → drop i f ≡ get_or f i 0 ∷ get_or f (i + 1) 0 ∷ drop (i + 1 + 1) f
   two h = drop_more f i 0 (omega arith) ∙ ap (λ x. get_or f i 0 ∷ x) (drop_more f (i + 1) 0 h)
 
-  pub end-here : i + 1 < length f → get_or f i 0 ≡ 13 → get_or f (i + 1) 0 ≡ 10 → option_map (λ k. i + k) (line_end (drop i f)) ≡ Some i
-  end-here h p q =
-      ap (λ x. option_map (λ k. i + k) (line_end x)) (two h)
-      ∙ ap (option_map (λ k. i + k)) (cond-true _ (Some 0) (option_map (λ k. 1 + k) (line_end (get_or f (i + 1) 0 ∷ drop (i + 1 + 1) f))) (and_from _ _ (eq-eqb _ 13 p) (eq-eqb _ 10 q)))
-      ∙ ap Some (add-zero i)
-
-  mapped-more : (o : Option ℕ) → option_map (λ k. i + k) (option_map (λ k. 1 + k) o) ≡ option_map (λ k. i + 1 + k) o
-  mapped-more None = refl
-  mapped-more (Some k) = let e : i + (1 + k) ≡ i + 1 + k = omega arith in ap Some e
-
-  pub end_more : i + 1 < length f → (get_or f i 0 ≡ 13 → get_or f (i + 1) 0 ≡ 10 → ⊥) → option_map (λ k. i + k) (line_end (drop i f)) ≡ option_map (λ k. i + 1 + k) (line_end (drop (i + 1) f))
-  end_more h n =
-      let not : ends (get_or f i 0) (get_or f (i + 1) 0) ≡ false = ⊎_elim (λ e. and_right _ _ (ne_eqb _ 10 (n e))) (λ e. and_left _ _ (ne_eqb _ 13 e)) (cases_eq (get_or f i 0) 13) in
-      ap (λ x. option_map (λ k. i + k) (line_end x)) (two h)
-      ∙ ap (option_map (λ k. i + k)) (cond-false _ (Some 0) (option_map (λ k. 1 + k) (line_end (get_or f (i + 1) 0 ∷ drop (i + 1 + 1) f))) not)
-      ∙ mapped-more (line_end (get_or f (i + 1) 0 ∷ drop (i + 1 + 1) f))
-      ∙ ap (λ x. option_map (λ k. i + 1 + k) (line_end x)) (sym (drop_more f (i + 1) 0 h))
-
-one_none : (f : List ℕ) → length f ≤ 1 → line_end f ≡ None
-one_none [] h = refl
-one_none (b ∷ []) h = refl
-one_none (b ∷ c ∷ bs) h = absurd (omega arith)
-
-pub end_none : (f : List ℕ) (i : ℕ) → length f ≤ i + 1 → line_end (drop i f) ≡ None
-end_none f i h = one_none (drop i f) (omega (arith, length-drop i f))
-
-pub mapped-zero : (o : Option ℕ) → option_map (λ k. 0 + k) o ≡ o
-mapped-zero None = refl
-mapped-zero (Some k) = ap Some (zero-add k)
-
 -- one turn of a loop over the lines, from the place `at`
 module _ (f : List ℕ) (at k : ℕ) (e : Some k ≡ line_end (take (length f - at) (drop at f))) where
   pub ends-from : Ends k (drop at f)
@@ -241,13 +211,6 @@ module _ (f : List ℕ) (at k : ℕ) (e : Some k ≡ line_end (take (length f - 
 
   pub cut-from : lines_of (drop at f) ≡ take k (drop at f) ∷ lines_of (drop (at + (k + 2)) f)
   cut-from = ends-from.cut ∙ ap (λ x. take k (drop at f) ∷ lines_of x) (drop-drop (k + 2) at f)
-
-  pub rest_from : rest_of (drop at f) ≡ rest_of (drop (at + (k + 2)) f)
-  rest_from = next-rest (drop at f) k ends-from ∙ ap rest_of (drop-drop (k + 2) at f)
-
-  pub written_from : length (written (lines_of (drop at f))) ≡ k + 2 + length (written (lines_of (drop (at + (k + 2)) f)))
-  written_from =
-      ap (λ ls. length (written ls)) cut-from ∙ first-written (drop at f) k (lines_of (drop (at + (k + 2)) f)) ends-from.within
 
 pub none_from : (f : List ℕ) (at : ℕ) → None ≡ line_end (take (length f - at) (drop at f)) → line_end (drop at f) ≡ None
 none_from f at e = ap line_end (sym (take_rest f at)) ∙ sym e

@@ -2,3 +2,4 @@ pub mod Cuts
 pub mod Counting
 pub mod FileLaws
 pub mod Sums
+pub mod FirstLines

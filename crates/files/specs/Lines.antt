@@ -1,5 +1,6 @@
 -- Bytes cut into lines at each CR directly followed by LF. A lone CR or LF is a byte of its line.
-use Rattle.std.specs.Prelude.{◌≡◌, ℕ, ◌+◌, Bool, cond, ◌&&◌, List, [], ◌∷◌, ◌++◌, length, drop, Some, None, Option, ◌==◌}
+use Rattle.std.specs.Prelude.{◌≡◌, ℕ, ◌+◌, Bool, cond, ◌&&◌, List, [], ◌∷◌, ◌++◌, length, drop, Some, None, Option, ◌==◌, MatchOption}
+use Rattle.std.specs.Borrow.{Bor}
 use Rattle.std.specs.Option.{option_map}
 
 -- CR and then LF
@@ -31,6 +32,15 @@ written (l ∷ ls) = l ++ (13 ∷ 10 ∷ written ls)
 -- the unended rest: what stands behind the last CR LF
 abbrev pub rest_of : List ℕ → List ℕ
 rest_of f = drop (length (written (lines_of f))) f
+
+-- bytes begin with a line, CR LF behind it, and then others
+pub record FirstLine (bytes line others : List ℕ) : Type 0 where
+  pub whole : bytes ≡ line ++ (13 ∷ 10 ∷ others)
+  pub uncut : line_end line ≡ None
+
+-- the first line is cut off and the others are left, or there is none and all is left
+abbrev pub CutsLine : List ℕ → Option (Bor (List ℕ)) → List ℕ → Type 0
+CutsLine bytes r left = MatchOption r ((line_end bytes ≡ None) × (left ≡ bytes)) (λ line. FirstLine bytes line.now left)
 
 -- no line has a CR directly followed by LF
 abbrev pub Whole : List (List ℕ) → Type 0

@@ -1,23 +1,78 @@
 // Bytes are cut into lines at each CR directly followed by LF.
-ghost use Rattle.std.specs.Prelude.{◌≡◌, length};
+ghost use Rattle.std.specs.Prelude.{◌≡◌, ◌&&◌, ◌==◌, length, drop, position};
+ghost use Rattle.std.specs.List.{zip};
 ghost use Rattle.files.specs.Lines.{line_end, lines_of, written, Cutting};
+
+use std::marker::Model;
 
 const CR: u8 = 13;
 
 const LF: u8 = 10;
 
+// The index of the first CR directly followed by LF, among the pairs of neighbours.
+fn first_pair(bytes: &[u8]) -> Option<usize>
+    ensures { result ≡ position (λ p. p.0 == 13 && p.1 == 10) (zip bytes.now (drop 1 bytes.now)) }
+{
+    bytes
+        .iter()
+        .zip(bytes.iter().skip(1))
+        .position(|(b, c)| *b == CR && *c == LF)
+}
+
 // The index of the first CR directly followed by LF.
 pub fn line_end(bytes: &[u8]) -> Option<usize>
     ensures { result ≡ line_end bytes.now }
 {
-    let mut i = 0;
-    while i + 1 < bytes.len() {
-        if bytes[i] == CR && bytes[i + 1] == LF {
-            return Some(i);
-        }
-        i += 1;
+    first_pair(bytes)
+}
+
+// An iterator over lines, each without its CR LF. Contracts see the bytes that are not cut yet.
+#[derive(Drop)]
+pub struct Lines<'a> {
+    rest: &'a [u8],
+}
+
+impl<'a> Model for Lines<'a> {
+    ghost use Rattle.std.specs.Prelude.{ℕ, List};
+
+    ghost Value = { List ℕ };
+
+    ghost view = { λ lines. lines.rest.now };
+}
+
+// The lines of the bytes, in their order.
+pub fn lines_of(bytes: &[u8]) -> Lines<'_>
+    ensures { result ≡ bytes.now }
+{
+    Lines { rest: bytes }
+}
+
+impl<'a> Lines<'a> {
+    // The bytes that are not cut yet. Once no line is left, they are those behind the last CR LF.
+    pub fn rest(&self) -> &'a [u8]
+        ensures { result.now ≡ self.now }
+    {
+        self.rest
     }
-    None
+}
+
+impl<'a> Iterator for Lines<'a> {
+    ghost use Rattle.std.specs.Prelude.{length};
+    ghost use Rattle.std.specs.Iterator.{at_most};
+    ghost use Rattle.files.specs.Lines.{lines_of, CutsLine};
+
+    type Item = &'a [u8];
+
+    ghost next_gives = { CutsLine };
+
+    ghost remaining = { λ bytes. at_most (length (lines_of bytes)) };
+
+    fn next(&mut self) -> Option<&'a [u8]> {
+        let end = line_end(self.rest)?;
+        let (line, behind) = self.rest.split_at(end);
+        self.rest = &behind[2..];
+        Some(line)
+    }
 }
 
 // How many lines there are, and the place behind the last.
@@ -33,11 +88,12 @@ pub fn count_lines(bytes: &[u8]) -> LineCount
     ensures end { result.end ≡ length (written (lines_of bytes.now)) }
     ensures cutting { Cutting bytes.now }
 {
+    // No `for` over `left.by_ref()`: the proof did not close, since what is left is not known then.
+    let mut left = lines_of(bytes);
     let mut lines = 0;
-    let mut end = 0;
-    while let Some(k) = line_end(&bytes[end..]) {
+    while let Some(_line) = left.next() {
         lines += 1;
-        end += k + 2;
     }
+    let end = bytes.len() - left.rest().len();
     LineCount { lines, end }
 }

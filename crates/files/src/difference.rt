@@ -2,8 +2,7 @@
 ghost use Rattle.std.specs.Prelude.{◌≡◌};
 ghost use Rattle.files.specs.Differences.{difference_of};
 
-use crate::total::{NOT_A_CURRENCY, sum_lines};
-use basics::money::Currency;
+use crate::total::{currency_of, sum_lines};
 use basics::refusal::Refusal;
 use layouts::set::LayoutSet;
 
@@ -32,23 +31,17 @@ pub fn difference<S: LayoutSet>(
 ) -> Result<i64, FileFault>
     ensures { result ≡ difference_of (S.meaning set.now) first.now second.now currency.now }
 {
-    let Some(currency) = Currency::new(currency) else {
-        return Err(FileFault {
-            refusal: NOT_A_CURRENCY,
-            file: WhichFile::Neither,
-        });
-    };
-    match sum_lines(set, first, currency) {
-        Err(refusal) => Err(FileFault {
-            refusal,
-            file: WhichFile::First,
-        }),
-        Ok(more) => match sum_lines(set, second, currency) {
-            Err(refusal) => Err(FileFault {
-                refusal,
-                file: WhichFile::Second,
-            }),
-            Ok(less) => Ok(more as i64 - less as i64),
-        },
-    }
+    let currency = currency_of(currency).map_err(|refusal| FileFault {
+        refusal,
+        file: WhichFile::Neither,
+    })?;
+    let more = sum_lines(set, first, currency).map_err(|refusal| FileFault {
+        refusal,
+        file: WhichFile::First,
+    })?;
+    let less = sum_lines(set, second, currency).map_err(|refusal| FileFault {
+        refusal,
+        file: WhichFile::Second,
+    })?;
+    Ok(more as i64 - less as i64)
 }

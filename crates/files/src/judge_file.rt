@@ -1,11 +1,10 @@
 // A file is judged whole: at most 1,200 records, each with CR LF behind it.
 ghost use Rattle.std.specs.Prelude.{◌≡◌, ℕ, List, length, Ok, Err};
-ghost use Rattle.basics.specs.declared.refusal.Layer as Layer;
 ghost use Rattle.lines.specs.Judging.{judged};
 ghost use Rattle.basics.specs.declared.refusal.Refusal.{Refusal};
 ghost use Rattle.files.specs.Files.{at_line, counted, file_judged, FileOf, FileRefused};
 
-use crate::cut::{count_lines, line_end};
+use crate::cut::{count_lines, lines_of};
 use basics::refusal::{Layer, Reason, Refusal};
 use layouts::set::LayoutSet;
 use lines::judge::judge;
@@ -13,29 +12,16 @@ use lines::judge::judge;
 // A file has at most so many lines.
 const MOST_LINES: usize = 1200;
 
-// A refusal of a whole file, which names a line alone.
-fn file_refusal(reason: Reason, line: usize) -> Refusal
-    ensures { result ≡ record { reason = reason; layer = Layer.Files; line = line; field = 0; byte = 0 } }
-{
-    Refusal {
-        reason,
-        layer: Layer::Files,
-        line,
-        field: 0,
-        byte: 0,
-    }
-}
-
 // The number of lines: the last has to be ended, and they are at most 1,200.
 pub(crate) fn whole_lines(bytes: &[u8]) -> Result<usize, Refusal>
     ensures { result ≡ counted bytes.now }
 {
     let found = count_lines(bytes);
     if found.end < bytes.len() {
-        return Err(file_refusal(Reason::UnendedLine, found.lines + 1));
+        return Err(Refusal::new(Reason::UnendedLine, Layer::Files).in_line(found.lines + 1));
     }
     if found.lines > MOST_LINES {
-        return Err(file_refusal(Reason::TooManyLines, MOST_LINES + 1));
+        return Err(Refusal::new(Reason::TooManyLines, Layer::Files).in_line(MOST_LINES + 1));
     }
     Ok(found.lines)
 }
@@ -44,10 +30,7 @@ pub(crate) fn whole_lines(bytes: &[u8]) -> Result<usize, Refusal>
 pub(crate) fn judge_line<S: LayoutSet>(set: &S, line: &[u8], n: usize) -> Result<usize, Refusal>
     ensures { result ≡ at_line n (judged (S.meaning set.now) line.now) }
 {
-    match judge(set, line) {
-        Ok(j) => Ok(j),
-        Err(e) => Err(Refusal { line: n, ..e }),
-    }
+    judge(set, line).map_err(|e| e.in_line(n))
 }
 
 // The number of records, or the first fault, by the definition that computes it.
@@ -55,13 +38,8 @@ fn judge_lines<S: LayoutSet>(set: &S, bytes: &[u8]) -> Result<usize, Refusal>
     ensures { result ≡ file_judged (S.meaning set.now) bytes.now }
 {
     let count = whole_lines(bytes)?;
-    let mut n = 1;
-    let mut at = 0;
-    while let Some(k) = line_end(&bytes[at..]) {
-        let end = at + k;
-        judge_line(set, &bytes[at..end], n)?;
-        n += 1;
-        at = end + 2;
+    for (k, line) in lines_of(bytes).enumerate() {
+        judge_line(set, line, k + 1)?;
     }
     Ok(count)
 }

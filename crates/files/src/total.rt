@@ -1,54 +1,36 @@
 // The total of a file in a currency.
-ghost use Rattle.std.specs.Prelude.{◌≡◌, ℕ, ◌≤◌, IfOk, Ok};
+ghost use Rattle.std.specs.Prelude.{◌≡◌, ◌≤◌, true, false, IfOk, MatchResult};
+ghost use Rattle.basics.specs.Money.{is_currency};
+ghost use Rattle.basics.specs.Refusals.{refusal};
 ghost use Rattle.lines.specs.Judging.{judged};
 ghost use Rattle.files.specs.Files.{at_line};
 ghost use Rattle.files.specs.Totals.{same, worth, summed, total_of, paid_by};
 
-use crate::cut::line_end;
+use crate::cut::lines_of;
 use crate::judge_file::whole_lines;
 use basics::money::Currency;
 use basics::refusal::{Layer, Reason, Refusal};
 use layouts::set::LayoutSet;
 use reading::money::read_money;
 
-pub(crate) const NOT_A_CURRENCY: Refusal = Refusal {
-    reason: Reason::NotACurrency,
-    layer: Layer::Files,
-    line: 0,
-    field: 0,
-    byte: 0,
-};
-
-// Whether two currencies are the same.
-fn same_currency(one: Currency, other: Currency) -> bool
-    ensures { result ≡ same one.letters other.letters }
+// The currency that the bytes name, or 39.
+pub(crate) fn currency_of(bytes: &[u8]) -> Result<Currency, Refusal>
+    ensures { MatchResult result (λ c. (is_currency bytes.now ≡ true) × (c.letters ≡ bytes.now)) (λ e. (is_currency bytes.now ≡ false) × (e ≡ refusal 39 3 0 0 0)) }
 {
-    let a = one.letters();
-    let b = other.letters();
-    if a[0] != b[0] {
-        return false;
-    }
-    if a[1] != b[1] {
-        return false;
-    }
-    a[2] == b[2]
+    Currency::new(bytes).ok_or(Refusal::new(Reason::NotACurrency, Layer::Files))
 }
 
 // What line n pays in the currency, or its first fault as a fault of line n.
+#[tactic(auto, using(crate::proofs::Sums::pointwise_same))]
 fn paid_in<S: LayoutSet>(set: &S, line: &[u8], n: usize, currency: Currency) -> Result<u64, Refusal>
     ensures paid { result ≡ at_line n (paid_by (S.meaning set.now) currency.letters line.now (judged (S.meaning set.now) line.now)) }
     ensures few { IfOk result (λ a. a ≤ 999999999999999) }
 {
-    match read_money(set, line) {
-        Ok(money) => {
-            let amount = money.amount.hundredths();
-            if same_currency(money.currency, currency) {
-                Ok(amount)
-            } else {
-                Ok(0)
-            }
-        }
-        Err(e) => Err(Refusal { line: n, ..e }),
+    let money = read_money(set, line).map_err(|e| e.in_line(n))?;
+    if money.currency == currency {
+        Ok(money.amount.hundredths())
+    } else {
+        Ok(0)
     }
 }
 
@@ -64,14 +46,9 @@ pub(crate) fn sum_lines<S: LayoutSet>(
 {
     whole_lines(bytes)?;
     let mut sum = 0;
-    let mut n = 1;
-    let mut at = 0;
-    while let Some(k) = line_end(&bytes[at..]) {
-        let end = at + k;
-        let paid = paid_in(set, &bytes[at..end], n, currency)?;
+    for (k, line) in lines_of(bytes).enumerate() {
+        let paid = paid_in(set, line, k + 1, currency)?;
         sum += paid;
-        n += 1;
-        at = end + 2;
     }
     Ok(sum)
 }
@@ -81,8 +58,5 @@ pub(crate) fn sum_lines<S: LayoutSet>(
 pub fn total<S: LayoutSet>(set: &S, bytes: &[u8], currency: &[u8]) -> Result<u64, Refusal>
     ensures { result ≡ total_of (S.meaning set.now) bytes.now currency.now }
 {
-    match Currency::new(currency) {
-        Some(currency) => sum_lines(set, bytes, currency),
-        None => Err(NOT_A_CURRENCY),
-    }
+    sum_lines(set, bytes, currency_of(currency)?)
 }

@@ -6,7 +6,7 @@ ghost use Rattle.layouts.specs.Layouts.{letter, figured, times, full_width, late
 use basics::bytes::{ByteClass, allows};
 use layouts::field::Field;
 
-// The letter of the field's kind.
+// The letter of the field's kind, which is the kind's name in the rules.
 pub fn letter_of(f: Field) -> u8
     ensures { result ≡ letter f }
 {
@@ -28,19 +28,6 @@ pub fn letter_of(f: Field) -> u8
     }
 }
 
-// Whether all four are text bytes.
-fn are_texts(a: u8, b: u8, c: u8, d: u8) -> bool
-    ensures { result ≡ figured (Field.OneOf a b c d) }
-{
-    if !allows(ByteClass::Text, a) || !allows(ByteClass::Text, b) {
-        return false;
-    }
-    if !allows(ByteClass::Text, c) {
-        return false;
-    }
-    allows(ByteClass::Text, d)
-}
-
 // Whether the field's figures are those that its kind allows.
 fn is_figured(f: Field) -> bool
     ensures { result ≡ figured f }
@@ -48,13 +35,16 @@ fn is_figured(f: Field) -> bool
     match f {
         Field::Record(d) => d < 100_000,
         Field::Range(low, high) => low <= high && high < 100,
-        Field::Number(w) => 1 <= w && w <= 19,
-        Field::Zeros(w) => 1 <= w && w <= 99,
-        Field::Text(w) | Field::FilledText(w) | Field::Blanks(w) => 1 <= w && w <= 999,
+        Field::Number(w) => (1..=19).contains(&w),
+        Field::Zeros(w) => (1..=99).contains(&w),
+        Field::Text(w) | Field::FilledText(w) | Field::Blanks(w) => (1..=999).contains(&w),
         Field::Day | Field::DayOrZero | Field::Amount | Field::Currency => true,
-        Field::OneOf(a, b, c, d) => are_texts(a, b, c, d),
+        Field::OneOf(a, b, c, d) => {
+            let is_text = |x| allows(ByteClass::Text, x);
+            is_text(a) && is_text(b) && is_text(c) && is_text(d)
+        }
         Field::Lines(low, high) => low <= high && high <= 60,
-        Field::AllOrNoLines(n) => 1 <= n && n <= 60,
+        Field::AllOrNoLines(n) => (1..=60).contains(&n),
     }
 }
 
@@ -65,30 +55,22 @@ fn widest(f: Field) -> u16
     match f {
         Field::Record(_) => 8,
         Field::Range(_, _) => 2,
-        Field::Number(w) => w as u16,
-        Field::Zeros(w) => w as u16,
-        Field::Text(w) | Field::FilledText(w) => w,
-        Field::Blanks(w) => w,
+        Field::Number(w) | Field::Zeros(w) => u16::from(w),
+        Field::Text(w) | Field::FilledText(w) | Field::Blanks(w) => w,
         Field::Day | Field::DayOrZero => 8,
         Field::Amount => 15,
         Field::Currency => 3,
         Field::OneOf(_, _, _, _) => 1,
-        Field::Lines(_, high) => 2 + 35 * high as u16,
-        Field::AllOrNoLines(n) => 2 + 35 * n as u16,
+        Field::Lines(_, high) | Field::AllOrNoLines(high) => 2 + 35 * u16::from(high),
     }
 }
 
 // How many fields are of the kind with this letter.
+#[tactic(auto, using(crate::proofs::LawfulLaws::times_is_count))]
 fn count_of(kind: u8, fields: &[Field]) -> usize
     ensures { result ≡ times kind fields.now }
 {
-    let mut n = 0;
-    for f in fields {
-        if letter_of(*f) == kind {
-            n += 1;
-        }
-    }
-    n
+    fields.iter().filter(|f| letter_of(**f) == kind).count()
 }
 
 // Whether the field may stand behind the first: it is no U, and its figures are allowed.
@@ -99,48 +81,34 @@ fn is_later(f: Field) -> bool
 }
 
 // Whether every field may stand behind the first.
+#[tactic(auto, using(crate::proofs::LawfulLaws::later_is_all))]
 fn are_later(fields: &[Field]) -> bool
     ensures { result ≡ later fields.now }
 {
-    for f in fields {
-        if !is_later(*f) {
-            return false;
-        }
-    }
-    true
+    fields.iter().all(|f| is_later(*f))
 }
 
 // How many bytes a line of these fields has at most.
+#[tactic(auto, using(crate::proofs::LawfulLaws::full_width_is_sum))]
 fn full_width(fields: &[Field]) -> usize
     requires { length fields.now ≤ 64 }
     ensures { result ≡ full_width fields.now }
 {
-    let mut sum = 0;
-    for f in fields {
-        sum += usize::from(widest(*f));
-    }
-    sum
+    fields.iter().map(|f| usize::from(widest(*f))).sum()
 }
 
 // Whether the fields are a lawful layout.
 pub fn is_lawful(fields: &[Field]) -> bool
     ensures { result ≡ lawful_layout fields.now }
 {
-    if fields.is_empty() || fields.len() > 64 {
+    let [first, rest @ ..] = fields else {
         return false;
-    }
-    if letter_of(fields[0]) != b'U' || !is_figured(fields[0]) {
-        return false;
-    }
-    let rest = &fields[1..];
-    if !are_later(rest) {
-        return false;
-    }
-    if count_of(b'P', rest) != 1 {
-        return false;
-    }
-    if count_of(b'V', rest) != 1 {
-        return false;
-    }
-    full_width(fields) <= 2400
+    };
+    letter_of(*first) == b'U'
+        && is_figured(*first)
+        && are_later(rest)
+        && count_of(b'P', rest) == 1
+        && count_of(b'V', rest) == 1
+        && fields.len() <= 64
+        && full_width(fields) <= 2400
 }

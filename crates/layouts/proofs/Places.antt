@@ -1,5 +1,8 @@
 -- What stands at a place of a list. Assumes nothing.
-use Rattle.std.proofs.Common.{◌≡◌, ℕ, zero, suc, ◌-◌, ◌<◌, ◌≤◌, List, [], ◌∷◌, length, get_or, drop, Some, None, Option, sym, refl, ap, ◌∙◌, arith}
+use Rattle.std.proofs.Common.{◌≡◌, ℕ, zero, suc, ◌+◌, ◌-◌, ◌<◌, ◌≤◌, List, [], ◌∷◌, length, get_or, drop, Some, None, Option, sym, refl, ap, ◌∙◌, arith}
+use Rattle.std.proofs.Common.{Bor}
+use Rattle.std.specs.Option.{MatchOption, option_copied}
+use Rattle.std.specs.List.{HoldsAt}
 use Rattle.layouts.specs.Layouts.{place}
 
 pub place-zero : {A : Type 0} (l : List A) → place l 0 ≡ None
@@ -46,3 +49,12 @@ from-none (x ∷ xs) (suc k) e = from-none xs k e
 pub drop-at-none : {A : Type 0} (l : List A) (i : ℕ) → 1 ≤ i → place l i ≡ None → drop (i - 1) l ≡ []
 drop-at-none l zero h e = absurd (omega arith)
 drop-at-none l (suc k) h e = let b : suc k - 1 ≡ k = omega arith in ap (λ n. drop n l) b ∙ from-none l k e
+
+-- an iterator at place i gives what stands there, and goes on behind it
+pub left-after : {A : Type 0} (l : List A) (i : ℕ) (f : A) → place l i ≡ Some f → drop (i - 1) l ≡ f ∷ drop (i + 1 - 1) l
+left-after l i f e = let b : i ≡ i + 1 - 1 = omega arith in drop-at-place l i f e ∙ ap (λ n. f ∷ drop n l) b
+
+-- what `get` finds at index k of a table, copied, stands at place k + 1
+pub got : {A : Type 0} (l : List A) (k : ℕ) (o : Option (Bor A)) → MatchOption o (length l ≤ k) (λ x. (k < length l) × HoldsAt (λ y. x.now ≡ y) l k) → option_copied o ≡ place l (suc k)
+got l k None h = sym (place-past l (suc k) (omega arith))
+got l k (Some x) h = ap Some (h.1 x.now) ∙ sym (place_at l k x.now h.0)

@@ -1,4 +1,5 @@
-// The built-in set: the four record types as fixed tables.
+// The built-in set: the four record types as fixed tables. Each is written out whole, as the format
+// has it, though runs of their fields are alike.
 ghost use Rattle.std.specs.Prelude.{◌≡◌};
 ghost use Rattle.layouts.specs.Layouts.{place};
 ghost use Rattle.layouts.specs.Tables.{built_in};
@@ -126,10 +127,7 @@ const CHEQUE: [Field; 31] = [
 pub fn field_at(table: &[Field], i: usize) -> Option<Field>
     ensures { result ≡ place table.now i }
 {
-    if i == 0 || i > table.len() {
-        return None;
-    }
-    Some(table[i - 1])
+    table.get(i.checked_sub(1)?).copied()
 }
 
 // The set of the four tables.

@@ -1,4 +1,5 @@
-// One field of a layout: its kind with its figures. docs/FORMAT.md has the table of kinds.
+// One field of a layout: its kind with its figures. docs/FORMAT.md has the table of kinds. An enum,
+// and no closure: layouts are data, which strips write.
 #[derive(Clone, Copy, Debug, PartialEq, Eq)]
 pub enum Field {
     // UBT and these five digits; it names the record.

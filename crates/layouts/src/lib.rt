@@ -3,4 +3,5 @@
 
 pub mod built_in;
 pub mod field;
+pub mod fields;
 pub mod set;

@@ -1,14 +1,16 @@
 // Values read from lines and written back.
-use crate::built_lines::line_of;
+use crate::built_lines::{LAYOUTS, line_of, put_largest, put_smallest};
 use crate::cases::tell;
 use crate::tiny::Tiny;
 use basics::refusal::Refusal;
 use comparing::records::same_record;
 use comparing::rows::same_values;
 use layouts::built_in::BuiltIn;
+use layouts::field::Field;
 use reading::read::read;
+use std::alloc::AllocError;
 use std::io;
-use values::row::ValueRow;
+use values::row::{ValueRow, Values};
 use writing::write::write;
 
 const EMPTY: ValueRow = ValueRow {
@@ -33,32 +35,35 @@ fn text(place: usize, length: usize) -> ValueRow {
     }
 }
 
+fn tell_rows(rt: HostRuntime, rows: &[ValueRow]) -> io::Result<()> {
+    for row in rows {
+        println!(rt;
+            "  number {} place {} length {}",
+            row.number, row.place, row.length
+        )?;
+    }
+    Ok(())
+}
+
 // The rows of a short line, in memory for one row more; and in memory for one row less.
 pub(crate) fn rows_of_a_short_line(rt: HostRuntime) -> io::Result<()> {
     let line = b"UBT99900000000000017525DKK";
     let mut rows = [EMPTY; 3];
     if let Ok(found) = read(&Tiny, line, &mut rows) {
-        let digits = found.digits;
-        let used = found.rows;
-        println!(rt; "read: digits {digits}, {used} rows")?;
+        println!(rt; "read: digits {}, {} rows", found.digits, found.rows)?;
     }
-    for row in rows {
-        let n = row.number;
-        let place = row.place;
-        let length = row.length;
-        println!(rt; "  number {n} place {place} length {length}")?;
-    }
+    tell_rows(rt, &rows)?;
     let mut one = [EMPTY; 1];
     match read(&Tiny, line, &mut one) {
         Ok(_) => println!(rt; "read into one row"),
         Err(e) => {
             tell(rt, "one row", Err(e))?;
-            let n = one[0].number;
-            println!(rt; "  the row still has {n}")
+            println!(rt; "  the row still has {}", one[0].number)
         }
     }
 }
 
+// Called for each case, and no table: the cases have different numbers of rows.
 fn tell_write(
     rt: HostRuntime,
     what: &str,
@@ -67,7 +72,7 @@ fn tell_write(
     bytes: &[u8],
 ) -> io::Result<()> {
     let mut out = [46u8; 30];
-    match write(&Tiny, digits, rows, bytes, &mut out) {
+    match write(&Tiny, digits, &Values { rows, bytes }, &mut out) {
         Ok(n) => println!(rt; "{what}: {n} bytes"),
         Err(e) => {
             tell(rt, what, Err(e))?;
@@ -166,13 +171,12 @@ pub(crate) fn blank_line_in_a_block(rt: HostRuntime) -> io::Result<()> {
         Ok(found) => found,
         Err(e) => return tell(rt, "not read", Err(e)),
     };
-    for row in rows {
-        let n = row.number;
-        let place = row.place;
-        let length = row.length;
-        println!(rt; "  number {n} place {place} length {length}")?;
-    }
-    match write(&Tiny, found.digits, &rows, line, &mut out) {
+    tell_rows(rt, &rows)?;
+    let values = Values {
+        rows: &rows,
+        bytes: line,
+    };
+    match write(&Tiny, found.digits, &values, &mut out) {
         Ok(98) if out == *line => println!(rt;
             "a block with a blank line is written back the same"
         ),
@@ -187,13 +191,8 @@ fn tell_same(rt: HostRuntime, what: &str, answer: Result<bool, Refusal>) -> io::
     }
 }
 
-// Equal records and equal lists of rows: what a row does not use is set aside.
-pub(crate) fn equality(rt: HostRuntime) -> io::Result<()> {
-    let dkk = b"UBT99900000000000017525DKK";
-    let eur = b"UBT99900000000000017525EUR";
-    tell_same(rt, "the same record", same_record(&Tiny, dkk, dkk))?;
-    tell_same(rt, "another currency", same_record(&Tiny, dkk, eur))?;
-    tell_same(rt, "the other is bad", same_record(&Tiny, dkk, b"UBT"))?;
+// Lists of rows against each other: what a row does not use is set aside.
+fn value_answers() -> [(&'static str, Result<bool, Refusal>); 4] {
     let rows = [number(17525), text(24, 3)];
     let odd = ValueRow {
         number: 17525,
@@ -201,58 +200,87 @@ pub(crate) fn equality(rt: HostRuntime) -> io::Result<()> {
         length: 9,
     };
     let others = [odd, text(1, 3)];
-    tell_same(
-        rt,
-        "the same values elsewhere",
-        same_values(&Tiny, 99900, &rows, dkk, &others, b"DKK"),
-    )?;
-    tell_same(
-        rt,
-        "another text",
-        same_values(&Tiny, 99900, &rows, dkk, &others, b"EUR"),
-    )?;
-    tell_same(
-        rt,
-        "a row less",
-        same_values(&Tiny, 99900, &rows, dkk, &others[0..1], b"DKK"),
-    )?;
-    tell_same(
-        rt,
-        "unknown digits",
-        same_values(&Tiny, 1, &rows, dkk, &others, b"DKK"),
-    )
+    let values = Values {
+        rows: &rows,
+        bytes: b"UBT99900000000000017525DKK",
+    };
+    let elsewhere = Values {
+        rows: &others,
+        bytes: b"DKK",
+    };
+    let euros = Values {
+        rows: &others,
+        bytes: b"EUR",
+    };
+    let fewer = Values {
+        rows: &others[0..1],
+        bytes: b"DKK",
+    };
+    [
+        (
+            "the same values elsewhere",
+            same_values(&Tiny, 99900, &values, &elsewhere),
+        ),
+        ("another text", same_values(&Tiny, 99900, &values, &euros)),
+        ("a row less", same_values(&Tiny, 99900, &values, &fewer)),
+        ("unknown digits", same_values(&Tiny, 1, &values, &elsewhere)),
+    ]
 }
 
-// A line of layout j is read and written back.
-fn there_and_back(rt: HostRuntime, j: usize, name: &[u8], large: bool) -> io::Result<()> {
-    let line = line_of(rt.alloc(), j, name, large)?;
+// Equal records and equal lists of rows.
+pub(crate) fn equality(rt: HostRuntime) -> io::Result<()> {
+    let dkk = b"UBT99900000000000017525DKK";
+    let eur = b"UBT99900000000000017525EUR";
+    tell_same(rt, "the same record", same_record(&Tiny, dkk, dkk))?;
+    tell_same(rt, "another currency", same_record(&Tiny, dkk, eur))?;
+    tell_same(rt, "the other is bad", same_record(&Tiny, dkk, b"UBT"))?;
+    for (what, answer) in value_answers() {
+        tell_same(rt, what, answer)?;
+    }
+    Ok(())
+}
+
+// A line is read and written back.
+fn there_and_back(rt: HostRuntime, line: &[u8]) -> io::Result<()> {
     let mut rows = [EMPTY; 140];
     let mut out = [46u8; 2101];
-    match read(&BuiltIn, &line, &mut rows) {
-        Ok(found) => {
-            let used = found.rows.min(140);
-            let digits = found.digits;
-            let last = rows[used.saturating_sub(1)];
-            let place = last.place;
-            let length = last.length;
-            print!(rt; "layout {digits}: {used} rows, the last at {place} of length {length},")?;
-            match write(&BuiltIn, digits, &rows[0..used], &line, &mut out) {
-                Ok(n) if n <= 2101 && line.as_slice() == &out[0..n] => {
-                    println!(rt; " written back the same")
-                }
-                _ => println!(rt; " not written back"),
-            }
-        }
-        Err(e) => tell(rt, "not read", Err(e)),
+    let found = match read(&BuiltIn, line, &mut rows) {
+        Ok(found) => found,
+        Err(e) => return tell(rt, "not read", Err(e)),
+    };
+    let digits = found.digits;
+    let used = &rows[..found.rows.min(140)];
+    let last = used.last().copied().unwrap_or(EMPTY);
+    print!(rt;
+        "layout {digits}: {} rows, the last at {} of length {},",
+        used.len(),
+        last.place,
+        last.length
+    )?;
+    let values = Values {
+        rows: used,
+        bytes: line,
+    };
+    match write(&BuiltIn, digits, &values, &mut out) {
+        Ok(n) if out.get(..n) == Some(line) => println!(rt; " written back the same"),
+        _ => println!(rt; " not written back"),
     }
+}
+
+// A line of each layout, whose fields are as `put` writes them.
+fn lines_there_and_back<F: Fn(&mut Vec<u8>, Field) -> Result<(), AllocError>>(
+    rt: HostRuntime,
+    put: F,
+) -> io::Result<()>
+    requires { F.IsAlwaysCallable put }
+{
+    for (j, name) in LAYOUTS {
+        there_and_back(rt, &line_of(rt.alloc(), j, name, &put)?)?;
+    }
+    Ok(())
 }
 
 pub(crate) fn round_trips(rt: HostRuntime) -> io::Result<()> {
-    for large in [false, true] {
-        there_and_back(rt, 1, b"UBT04500", large)?;
-        there_and_back(rt, 2, b"UBT04601", large)?;
-        there_and_back(rt, 3, b"UBT04602", large)?;
-        there_and_back(rt, 4, b"UBT05401", large)?;
-    }
-    Ok(())
+    lines_there_and_back(rt, put_smallest)?;
+    lines_there_and_back(rt, put_largest)
 }

@@ -1,7 +1,7 @@
 // Reports and surveys.
 use crate::tiny::Tiny;
 use layouts::built_in::BuiltIn;
-use reports::fault_row::FaultRow;
+use reports::fault_row::{FaultRow, Survey};
 use reports::report::report;
 use reports::survey::survey;
 use std::io;
@@ -11,11 +11,13 @@ use std::io::Write;
 fn tell_report(rt: HostRuntime, what: &str, bytes: &[u8], out: &mut [u8]) -> io::Result<()> {
     println!(rt; "{what}")?;
     match report(&BuiltIn, bytes, out) {
-        Ok(n) => rt.stdout().write_all(&out[0..n.min(out.len())]),
+        Ok(n) => rt.stdout().write_all(&out[..n.min(out.len())]),
         Err(e) => {
-            let number = e.reason.number();
             let first = out.first().copied().unwrap_or(0);
-            println!(rt; "  {number}, and the first byte of the room is {first}")
+            println!(rt;
+                "  {}, and the first byte of the room is {first}",
+                e.reason.number()
+            )
         }
     }
 }
@@ -45,19 +47,14 @@ pub(crate) fn reports(rt: HostRuntime) -> io::Result<()> {
 
 // 101 bad lines: the first 100 are shown, and the report has 4,022 bytes.
 fn many_bad_lines(rt: HostRuntime, room: &mut [u8]) -> io::Result<()> {
-    let mut bytes = Vec::new(rt.alloc());
-    for _ in 0..101 {
-        bytes.extend_from_slice(b"\r\n")?;
-    }
-    match report(&BuiltIn, &bytes, room) {
-        Ok(n) => {
-            println!(rt; "101 bad lines: a report of {n} bytes, which ends")?;
-            if n > 40 {
-                return rt.stdout().write_all(&room[n - 40..n]);
-            }
-            Ok(())
-        }
-        Err(_) => println!(rt; "101 bad lines: no room"),
+    let bytes = b"\r\n".repeat(rt.alloc(), 101)?;
+    let Ok(n) = report(&BuiltIn, &bytes, room) else {
+        return println!(rt; "101 bad lines: no room");
+    };
+    println!(rt; "101 bad lines: a report of {n} bytes, which ends")?;
+    match room.get(..n).and_then(|shown| shown.last_chunk::<40>()) {
+        Some(end) => rt.stdout().write_all(end),
+        None => Ok(()),
     }
 }
 
@@ -70,20 +67,19 @@ pub(crate) fn surveys(rt: HostRuntime) -> io::Result<()> {
         byte: 7,
         number: 7,
     }; 4];
-    let found = survey(&Tiny, bytes, &mut rows[0..2]);
-    tell_survey(rt, found.lines, found.bad, &rows)?;
+    let found = survey(&Tiny, bytes, &mut rows[..2]);
+    tell_survey(rt, found, &rows)?;
     let found = survey(&Tiny, bytes, &mut rows);
-    tell_survey(rt, found.lines, found.bad, &rows)
+    tell_survey(rt, found, &rows)
 }
 
-fn tell_survey(rt: HostRuntime, lines: usize, bad: usize, rows: &[FaultRow]) -> io::Result<()> {
-    println!(rt; "survey: {lines} lines, {bad} bad")?;
+fn tell_survey(rt: HostRuntime, found: Survey, rows: &[FaultRow]) -> io::Result<()> {
+    println!(rt; "survey: {} lines, {} bad", found.lines, found.bad)?;
     for row in rows {
-        let line = row.line;
-        let field = row.field;
-        let byte = row.byte;
-        let number = row.number;
-        println!(rt; "  line {line} field {field} byte {byte} fault {number}")?;
+        println!(rt;
+            "  line {} field {} byte {} fault {}",
+            row.line, row.field, row.byte, row.number
+        )?;
     }
     Ok(())
 }

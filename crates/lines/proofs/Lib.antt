@@ -8,3 +8,4 @@ pub mod Names
 pub mod Judged
 pub mod Refused
 pub mod TextOnly
+pub mod Differences

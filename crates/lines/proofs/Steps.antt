@@ -1,6 +1,6 @@
 -- Single steps of the judging definitions, as the code takes them.
-use Rattle.std.proofs.Common.{◌≡◌, ℕ, zero, suc, ◌+◌, ◌-◌, ◌*◌, ◌<◌, ◌≤◌, Bool, true, false, cond, eqb, ltb, List, [], ◌∷◌, length, get_or, take, drop, replicate, Some, None, Ok, Err, Option, Result, unwrap_or, sym, refl, ap, ◌∙◌, zero-add, arith}
-use Rattle.std.proofs.lemmas.List.{drop-drop, get_or-replicate, length-replicate}
+use Rattle.std.proofs.Common.{◌≡◌, ℕ, zero, suc, ◌+◌, ◌-◌, ◌<◌, ◌≤◌, Bool, true, false, cond, eqb, ltb, List, [], ◌∷◌, ◌++◌, length, get_or, take, drop, replicate, Some, None, Ok, Err, Option, Result, unwrap_or, sym, refl, ap, ◌∙◌, zero-add, arith}
+use Rattle.std.proofs.lemmas.List.{take_at, drop_at, get_or-replicate, length-replicate}
 use Rattle.std.proofs.lemmas.Bool.{le-ltb}
 use Rattle.basics.specs.declared.bytes.ByteClass.TheVariants as class
 use Rattle.basics.specs.declared.refusal.Refusal.{Refusal}
@@ -63,31 +63,22 @@ pub cut_ok : (w i p : ℕ) (line : List ℕ) (k : List ℕ → Result ℕ Refusa
 cut_ok w i p line k s r e h g =
     g ∙ ap k e ∙ sym (ap (λ t. cond t (Err (refusal 11 2 0 i (length line + 1))) (k (take w (drop p line)))) (le-ltb (length line - p) w h))
 
--- one turn of the loop over the lines of a block
-module _ (ok : List ℕ → Bool) (n i p : ℕ) (s : List ℕ) (k : ℕ) where
-  turn : k < n → each_line ok (n - k) i (p + 35 * k) (drop (35 * k) s) ≡ cond (ok (take 35 (drop (35 * k) s))) (each_line ok (n - (k + 1)) i (p + 35 * (k + 1)) (drop (35 * (k + 1)) s)) (Err (refusal 14 2 0 i (p + 35 * k + 1)))
-  turn h =
-      let a : n - k ≡ suc (n - (k + 1)) = omega arith in
-      let b : p + 35 * k + 35 ≡ p + 35 * (k + 1) = omega arith in
-      let d : 35 * k + 35 ≡ 35 * (k + 1) = omega arith in
-      let x = ok (take 35 (drop (35 * k) s)) in
-      let y : Result ℕ Refusal = Err (refusal 14 2 0 i (p + 35 * k + 1)) in
-      ap (λ m. each_line ok m i (p + 35 * k) (drop (35 * k) s)) a
-      ∙ ap (λ m. cond x (each_line ok (n - (k + 1)) i m (drop 35 (drop (35 * k) s))) y) b
-      ∙ ap (λ t. cond x (each_line ok (n - (k + 1)) i (p + 35 * (k + 1)) t) y) (drop-drop 35 (35 * k) s ∙ ap (λ m. drop m s) d)
+-- one turn of a loop over lines of 35 bytes, of which so many are passed
+module _ (ok : List ℕ → Bool) (n i q k : ℕ) (left line rest : List ℕ) (h : k < n) (e : left ≡ line ++ rest) (w : length line ≡ 35) where
+  turn : each_line ok (n - k) i q left ≡ cond (ok line) (each_line ok (n - (k + 1)) i (q + 35) rest) (Err (refusal 14 2 0 i (q + 1)))
+  turn =
+      let m : n - k ≡ suc (n - (k + 1)) = omega arith in
+      let t : take 35 left ≡ line = ap (take 35) e ∙ take_at line rest 35 w in
+      let d : drop 35 left ≡ rest = ap (drop 35) e ∙ drop_at line rest 35 w in
+      ap (λ x. each_line ok x i q left) m
+      ∙ ap (λ x. cond (ok x) (each_line ok (n - (k + 1)) i (q + 35) (drop 35 left)) (Err (refusal 14 2 0 i (q + 1)))) t
+      ∙ ap (λ x. cond (ok line) (each_line ok (n - (k + 1)) i (q + 35) x) (Err (refusal 14 2 0 i (q + 1)))) d
 
-  -- the line at k, as the code cuts it
-  here : take (35 * k + 35 - 35 * k) (drop (35 * k) s) ≡ take 35 (drop (35 * k) s)
-  here = let a : 35 * k + 35 - 35 * k ≡ 35 = omega arith in ap (λ m. take m (drop (35 * k) s)) a
+  pub line-wrong : ok line ≡ false → each_line ok (n - k) i q left ≡ Err (refusal 14 2 0 i (q + 1))
+  line-wrong f = turn ∙ ap (λ t. cond t (each_line ok (n - (k + 1)) i (q + 35) rest) (Err (refusal 14 2 0 i (q + 1)))) f
 
-  pub line-wrong : k < n → ok (take (35 * k + 35 - 35 * k) (drop (35 * k) s)) ≡ false → each_line ok (n - k) i (p + 35 * k) (drop (35 * k) s) ≡ Err (refusal 14 2 0 i (p + 35 * k + 1))
-  line-wrong h e = turn h ∙ ap (λ t. cond t (each_line ok (n - (k + 1)) i (p + 35 * (k + 1)) (drop (35 * (k + 1)) s)) (Err (refusal 14 2 0 i (p + 35 * k + 1)))) (ap ok (sym here) ∙ e)
-
-  pub line-right : k < n → ok (take (35 * k + 35 - 35 * k) (drop (35 * k) s)) ≡ true → each_line ok (n - k) i (p + 35 * k) (drop (35 * k) s) ≡ each_line ok (n - (k + 1)) i (p + 35 * (k + 1)) (drop (35 * (k + 1)) s)
-  line-right h e = turn h ∙ ap (λ t. cond t (each_line ok (n - (k + 1)) i (p + 35 * (k + 1)) (drop (35 * (k + 1)) s)) (Err (refusal 14 2 0 i (p + 35 * k + 1)))) (ap ok (sym here) ∙ e)
-
-  pub lines-done : n ≤ k → each_line ok (n - k) i (p + 35 * k) (drop (35 * k) s) ≡ Ok (p + 35 * k)
-  lines-done h = let a : n - k ≡ 0 = omega arith in ap (λ m. each_line ok m i (p + 35 * k) (drop (35 * k) s)) a
+  pub line-right : ok line ≡ true → each_line ok (n - k) i q left ≡ each_line ok (n - (k + 1)) i (q + 35) rest
+  line-right t = turn ∙ ap (λ t. cond t (each_line ok (n - (k + 1)) i (q + 35) rest) (Err (refusal 14 2 0 i (q + 1)))) t
 
 -- a field of so many times one byte
 filler-in : (b w i p : ℕ) (s : List ℕ) → length s ≤ w → part_in (letters w (λ x. eqb x b) any_text 14) i p s ≡ part_in (constant (replicate w b)) i p s
@@ -104,17 +95,6 @@ filler-end b w i p line =
     ap (λ r. cond (ltb (length line - p) w) (Err (refusal 11 2 0 i (length line + 1))) r) (filler-in b w i p s (short-take w (drop p line)))
     ∙ ap (λ m. cut m i p line (part_in (constant (replicate w b)) i p)) (sym (length-replicate {A = ℕ} w b))
 
-pub numbered-ok : (ok : ℕ → Bool) (n i p : ℕ) (s : List ℕ) (m : ℕ) → numbered ok n i p s ≡ Ok m → m ≡ number_of s
-numbered-ok ok n i p s m h =
-    elim (cleaned (anywhere (allowed class.Digit)) i p s) as (λ r. and_then r (λ e. cond (ok (number_of s)) (Ok (number_of s)) (Err (refusal n 2 0 i (p + 1)))) ≡ Ok m → m ≡ number_of s) [
-      | Ok e ↦ λ g.
-          elim (ok (number_of s)) as (λ t. cond t (Ok (number_of s)) (Err (refusal n 2 0 i (p + 1))) ≡ Ok m → m ≡ number_of s)
-          [ true ↦ λ f. sym (same_ok f) | false ↦ λ f. absurd-err f ]
-          g
-      | Err x ↦ λ g. absurd-err g
-    ]
-    h
-
 -- a block: its count, and then its lines
 module _ (high : ℕ) (counts : ℕ → Bool) (ok : List ℕ → Bool) (i p : ℕ) (line s : List ℕ) (is : s ≡ take 2 (drop p line)) (room : 2 ≤ length line - p) (two : length s ≡ 2) where
   counted : part_end (count counts) i p line ≡ and_then (numbered counts 15 i p s) (λ m. Ok (p + length s))
@@ -126,12 +106,3 @@ module _ (high : ℕ) (counts : ℕ → Bool) (ok : List ℕ → Bool) (i p : �
   pub block_refused : (x : Refusal) → Err x ≡ numbered counts 15 i p s → Err x ≡ field_end (block high counts ok) i p line
   unfolding rest
   block_refused x h = sym (ap (λ r. and_then r rest) (counted ∙ ap (λ r. and_then r (λ m. Ok (p + length s))) (sym h)))
-
-  pub block-lines : (n : ℕ) (r : Result ℕ Refusal) → Ok n ≡ numbered counts 15 i p s → r ≡ lines_end ok n i (p + 2) line → r ≡ field_end (block high counts ok) i p line
-  unfolding rest
-  block-lines n r h g =
-      let m = numbered-ok counts 15 i p s n (sym h) ∙ ap number_of is in
-      g
-      ∙ ap (λ k. lines_end ok k i (p + 2) line) m
-      ∙ ap (λ k. lines_end ok (number_of (take 2 (drop p line))) i (p + k) line) (sym two)
-      ∙ sym (ap (λ r. and_then r rest) (counted ∙ ap (λ r. and_then r (λ m. Ok (p + length s))) (sym h)))

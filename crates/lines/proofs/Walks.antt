@@ -1,28 +1,10 @@
 -- One turn of the walk over the fields, and of the look for the layout.
-use Rattle.std.proofs.Common.{◌≡◌, ℕ, ◌+◌, ◌-◌, ◌<◌, ◌≤◌, Bool, cond, ltb, List, [], ◌∷◌, length, get_or, drop, Some, None, Ok, Err, sym, refl, ap, ◌∙◌, add-one, arith}
+use Rattle.std.proofs.Common.{◌≡◌, ℕ, ◌+◌, ◌-◌, ◌<◌, ◌≤◌, Bool, cond, List, [], ◌∷◌, length, get_or, drop, Some, None, sym, refl, ap, ◌∙◌, add-one, arith}
 use Rattle.std.proofs.lemmas.List.{drop_more, drop_all}
-use Rattle.basics.specs.declared.refusal.Refusal.{Refusal}
-use Rattle.basics.specs.Refusals.{refusal}
 use Rattle.layouts.specs.declared.field.Field.{Field}
-use Rattle.layouts.specs.Kinds.{shape}
 use Rattle.layouts.specs.Layouts.{place, or_empty, field_at, digits_of, same_number}
-use Rattle.layouts.proofs.Places.{drop-at-place, drop-at-none, place_at}
-use Rattle.lines.specs.Judging.{and_then, field_end, walked, record_at, found}
-
-module _ (line : List ℕ) (j : ℕ) (l : List Field) (i p : ℕ) where
-  turn : (f : Field) → place l i ≡ Some f → walked line j (drop (i - 1) l) i p ≡ and_then (field_end (shape f) i p line) (λ q. walked line j (drop i l) (i + 1) q)
-  turn f e = ap (λ fs. walked line j fs i p) (drop-at-place l i f e)
-
-  pub walk_more : (f : Field) (q : ℕ) → place l i ≡ Some f → field_end (shape f) i p line ≡ Ok q → walked line j (drop (i - 1) l) i p ≡ walked line j (drop (i + 1 - 1) l) (i + 1) q
-  walk_more f q e h =
-      let b : i ≡ i + 1 - 1 = omega arith in
-      turn f e ∙ ap (λ r. and_then r (λ m. walked line j (drop i l) (i + 1) m)) h ∙ ap (λ n. walked line j (drop n l) (i + 1) q) b
-
-  pub walk_refused : (f : Field) (x : Refusal) → place l i ≡ Some f → field_end (shape f) i p line ≡ Err x → walked line j (drop (i - 1) l) i p ≡ Err x
-  walk_refused f x e h = turn f e ∙ ap (λ r. and_then r (λ m. walked line j (drop i l) (i + 1) m)) h
-
-  pub walk_end : 1 ≤ i → place l i ≡ None → walked line j (drop (i - 1) l) i p ≡ cond (ltb p (length line)) (Err (refusal 18 2 0 i (p + 1))) (Ok j)
-  walk_end h e = ap (λ fs. walked line j fs i p) (drop-at-none l i h e)
+use Rattle.layouts.proofs.Places.{place_at}
+use Rattle.lines.specs.Judging.{record_at, found}
 
 pub digits-first : (l : List Field) → digits_of l ≡ record_at (place l 1)
 digits-first [] = refl

@@ -6,27 +6,26 @@ ghost use Rattle.lines.specs.Belongs.{BelongsAs};
 ghost use Rattle.lines.specs.Refuses.{Refuses};
 ghost use Rattle.lines.specs.Judging.{record_at, found, walked, judged};
 
-use crate::field_check::field_end;
-use crate::parts::fault;
+use crate::field_check::Start;
+use crate::part::fault;
 use basics::decimal;
 use basics::refusal::{Reason, Refusal};
 use layouts::field::Field;
+use layouts::fields::fields_of;
 use layouts::set::LayoutSet;
 
 // Whether a layout that begins with this field has these digits.
 fn has_digits(first: Option<Field>, digits: u64) -> bool
     ensures { result ≡ same_number (Some digits) (record_at first) }
 {
-    match first {
-        Some(Field::Record(d)) => digits == u64::from(d),
-        _ => false,
-    }
+    matches!(first, Some(Field::Record(d)) if u64::from(d) == digits)
 }
 
 // The number of the layout that has these digits.
 pub fn find<S: LayoutSet>(set: &S, digits: u64) -> Option<usize>
     ensures { result ≡ found (S.meaning set.now) 1 digits }
 {
+    // By number, by which alone a set is asked.
     for j in 1..=set.layouts() {
         if has_digits(set.field(j, 1), digits) {
             return Some(j);
@@ -39,10 +38,16 @@ pub fn find<S: LayoutSet>(set: &S, digits: u64) -> Option<usize>
 fn walk<S: LayoutSet>(set: &S, j: usize, line: &[u8]) -> Result<usize, Refusal>
     ensures { result ≡ walked line.now j (layout_at (S.meaning set.now) j) 1 0 }
 {
+    // Counted by hand: the field behind the last has a number too, for bytes left over.
     let mut i = 1;
     let mut place = 0;
-    while let Some(f) = set.field(j, i) {
-        place = field_end(f, i, place, line)?;
+    for f in fields_of(set, j) {
+        let start = Start {
+            line,
+            field: i,
+            place,
+        };
+        place = start.field(f)?;
         i += 1;
     }
     if place < line.len() {

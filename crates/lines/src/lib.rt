@@ -3,5 +3,5 @@
 
 mod field_check;
 pub mod judge;
-mod parts;
+mod part;
 pub mod rules;

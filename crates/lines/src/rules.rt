@@ -8,7 +8,7 @@ use basics::calendar::Day;
 use basics::money::Amount;
 use basics::refusal::Reason;
 
-// The numbers that a part may show.
+// The numbers that a part may show. An enum, and no closure: contracts name the rules.
 #[derive(Clone, Copy)]
 pub enum NumberRule {
     Any,
@@ -46,7 +46,7 @@ impl NumberRule {
     }
 }
 
-// The texts that a part may hold.
+// The texts that a part may hold. An enum for the same reason.
 #[derive(Clone, Copy)]
 pub enum TextRule {
     Any,

@@ -1,5 +1,5 @@
 -- What an answer says of a value that is there.
-use Rattle.std.proofs.Common.{◌≡◌, ℕ, true, List, Some, Ok, Option, unwrap_or, sym, ap, ◌∙◌, subst, arith, MatchOption}
+use Rattle.std.proofs.Common.{◌≡◌, ℕ, true, List, Ok, Option, unwrap_or, sym, ap, ◌∙◌, subst, arith}
 use Rattle.basics.specs.Decimals.{number_of, value_of}
 use Rattle.basics.specs.Money.{is_amount}
 use Rattle.basics.proofs.DigitLaws.{value-some}
@@ -16,9 +16,6 @@ use Rattle.values.specs.Money.{amount_of, currency_of, Among, HasMoney}
 use Rattle.values.proofs.PartLaws.{digits_of_lem}
 use Rattle.values.proofs.MoneyLaws.{InLine, in-line}
 use Rattle.reading.proofs.Outcomes.{belongs-follows}
-
-pub at_some : {A : Type 0} (o : Option A) (x : A) (P : Type 0) (Q : A → Type 0) → o ≡ Some x → MatchOption o P Q → Q x
-at_some o x P Q e h = subst (λ y. MatchOption y P Q) e h
 
 -- the number of a P field
 pub amount-digits : (s : List ℕ) (o : Option ℕ) (n : ℕ) → Fit (figures 15 is_amount 17) s → o ≡ value_of s → n ≡ unwrap_or o 0 → n ≡ number_of s

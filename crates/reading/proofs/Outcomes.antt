@@ -1,7 +1,6 @@
 -- What reading answers and leaves, and that the rows show the record.
-use Rattle.std.proofs.Common.{◌≡◌, ℕ, ◌<◌, ◌≤◌, Bool, true, false, cond, ltb, List, ◌++◌, length, take, drop, IfOk, Some, Ok, Err, Result, sym, refl, ap, ◌∙◌, subst}
+use Rattle.std.proofs.Common.{◌≡◌, ℕ, Bool, true, false, cond, ltb, List, ◌++◌, length, take, drop, IfOk, Some, Ok, Err, Result, sym, refl, ap, subst}
 use Rattle.std.proofs.lemmas.List.{take_at}
-use Rattle.std.proofs.lemmas.Bool.{lt-ltb, le-ltb}
 use Rattle.basics.specs.declared.refusal.Refusal.{Refusal}
 use Rattle.basics.specs.Refusals.{refusal}
 use Rattle.layouts.specs.declared.field.Field.{Field}
@@ -20,31 +19,7 @@ use Rattle.reading.specs.Reading.{or_zero, reading_of, read_by, answer_to, rows_
 pub belongs-follows : (ls : List (List Field)) (j : ℕ) (line : List ℕ) → BelongsAs ls j line → Follows (layout_at ls j) line
 belongs-follows ls j line b = subst (λ l. Follows l line) (sym (ap or_empty b.at)) b.follows
 
-pub same-reading : (l : List Field) (line : List ℕ) (d n : ℕ) → d ≡ or_zero (digits_of l) → n ≡ length (rows_of l line) → record { digits = d; rows = n } ≡ reading_of l line
-same-reading l line d n a b = cc
-
 module _ (ls : List (List Field)) (line : List ℕ) (old : List ValueRow) where
-  -- the line is refused
-  pub read-refused : (e : Refusal) → judged ls line ≡ Err e → (answer_to ls line (length old) ≡ Err e) × (rows_after ls line old ≡ old)
-  read-refused e h = (ap (read_by ls line (length old)) h, ap (rows_by ls line old) h)
-
-  -- there is no room, or there is
-  pub read_short : (j : ℕ) → judged ls line ≡ Ok j → length old < length (rows_of (layout_at ls j) line) → (answer_to ls line (length old) ≡ Err (refusal 24 2 0 0 0)) × (rows_after ls line old ≡ old)
-  read_short j h l =
-      let new = rows_of (layout_at ls j) line in
-      let t = lt-ltb (length old) (length new) l in (
-        ap (read_by ls line (length old)) h ∙ ap (λ b. cond b (Err (refusal 24 2 0 0 0)) (Ok (reading_of (layout_at ls j) line))) t,
-        ap (rows_by ls line old) h ∙ ap (λ b. cond b old (new ++ drop (length new) old)) t,
-      )
-
-  pub read_done : (j : ℕ) → judged ls line ≡ Ok j → length (rows_of (layout_at ls j) line) ≤ length old → (answer_to ls line (length old) ≡ Ok (reading_of (layout_at ls j) line)) × (rows_after ls line old ≡ rows_of (layout_at ls j) line ++ drop (length (rows_of (layout_at ls j) line)) old)
-  read_done j h l =
-      let new = rows_of (layout_at ls j) line in
-      let t = le-ltb (length old) (length new) l in (
-        ap (read_by ls line (length old)) h ∙ ap (λ b. cond b (Err (refusal 24 2 0 0 0)) (Ok (reading_of (layout_at ls j) line))) t,
-        ap (rows_by ls line old) h ∙ ap (λ b. cond b old (new ++ drop (length new) old)) t,
-      )
-
   record-read : (j : ℕ) → is_lawful ls ≡ true → judged ls line ≡ Ok j → ShowsRecord ls (or_zero (digits_of (layout_at ls j))) line (rows_of (layout_at ls j) line) line
   record-read j law e =
       let b = judged-belongs ls line j e in

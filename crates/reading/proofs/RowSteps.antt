@@ -1,6 +1,6 @@
 -- Rows laid one after another, and what a lawful part says of them.
 use Rattle.std.proofs.Common.{◌≡◌, ℕ, zero, suc, ◌+◌, ◌-◌, ◌*◌, ◌^◌, ◌<◌, ◌≤◌, Bool, List, [], ◌∷◌, ◌++◌, length, take, drop, set, sym, refl, ap, ◌∙◌, subst, append_assoc, add-zero, zero-add, arith, length-set}
-use Rattle.std.proofs.lemmas.List.{drop-drop, take-take, take-append-drop, take_more_set, drop-set-lt, length-take}
+use Rattle.std.proofs.lemmas.List.{drop-drop, take-append-drop, take_more_set, drop-set-lt, length-take}
 use Rattle.basics.specs.Decimals.{number_of}
 use Rattle.basics.proofs.DigitLaws.{Digits, number_lt}
 use Rattle.layouts.specs.Kinds.{Shape, count}
@@ -32,9 +32,6 @@ lines_more rows top n k p s t h e =
     ∙ ap (λ x. laid (set rows top (text_row (p + 35 * k) (take 35 (drop (35 * k) s)))) (top + 1) (line_rows (n - (k + 1)) x (drop (35 * (k + 1)) s))) j
     ∙ ap (λ x. laid (set rows top (text_row (p + 35 * k) (take 35 (drop (35 * k) s)))) (top + 1) (line_rows (n - (k + 1)) (p + 35 * k + 35) x)) d
     ∙ sym (ap (λ x. laid rows top (line_rows x (p + 35 * k) (drop (35 * k) s))) m)
-
-pub lines_none : (rows : List ValueRow) (top n k p : ℕ) (s : List ℕ) → n ≤ k → laid rows top (line_rows (n - k) (p + 35 * k) (drop (35 * k) s)) ≡ rows
-lines_none rows top n k p s h = let z : n - k ≡ 0 = omega arith in ap (λ x. laid rows top (line_rows x (p + 35 * k) (drop (35 * k) s))) z
 
 pub length-lines : (n p : ℕ) (s : List ℕ) → length (line_rows n p s) ≡ n
 length-lines zero p s = refl
@@ -72,12 +69,6 @@ is_block x high counts texts s e h =
       many = λ p. ap length (r p) ∙ omega (arith, length-lines (number_of (take 2 s)) (p + 2) (drop 2 s));
     }
 
--- the same of a block that begins a longer list
-pub begins-block : (x : Form) (high : ℕ) (counts : NumberRule) (texts : TextRule) (s : List ℕ) → x ≡ Block high counts texts → Lawful (shape_of x) (take (extent (shape_of x) s) s) → Counted s
-begins-block x high counts texts s e h =
-    let b : lines.Block (number_test counts) (text_test texts) (take (2 + 35 * number_of (take 2 s)) s) = subst (λ y. Lawful (shape_of y) (take (extent (shape_of y) s) s)) e h in
-    counted (number_test counts) s (subst (Fit (count (number_test counts))) (take-take 2 (2 + 35 * number_of (take 2 s)) s (omega arith)) b.counted)
-
 -- digits, as the code knows them
 pub is-figures : (x : Form) (w : ℕ) (rule : NumberRule) (s : List ℕ) → x ≡ Figures w rule → Lawful (shape_of x) s → Narrow (shape_of x) → Digits s × (length s ≤ 19)
 is-figures x w rule s e h n =
@@ -109,6 +100,10 @@ laid_from rows u (y ∷ ys) h =
     ∙ ap (λ x. x ++ (ys ++ drop (u + 1 + length ys) (set rows u y))) (take_more_set rows u y l)
     ∙ append_assoc (take u rows) (y ∷ []) (ys ++ drop (u + 1 + length ys) (set rows u y))
     ∙ ap (λ x. take u rows ++ (y ∷ (ys ++ x))) (drop-set-lt (u + 1 + length ys) rows u y (omega arith) ∙ ap (λ k. drop k rows) s)
+
+pub length-laid : (rows : List ValueRow) (u : ℕ) (ys : List ValueRow) → length (laid rows u ys) ≡ length rows
+length-laid rows u [] = refl
+length-laid rows u (y ∷ ys) = length-laid (set rows u y) (u + 1) ys ∙ length-set rows u y
 
 -- rows laid from the first on
 pub laid-front : (rows ys : List ValueRow) → length ys ≤ length rows → laid rows 0 ys ≡ ys ++ drop (length ys) rows

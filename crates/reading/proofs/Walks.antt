@@ -1,5 +1,5 @@
 -- One turn of the walk over the fields of a line.
-use Rattle.std.proofs.Common.{◌≡◌, ℕ, zero, suc, ◌+◌, ◌-◌, ◌≤◌, true, false, cond, not, ◌&&◌, eqb, leb, List, [], ◌∷◌, ◌++◌, length, take, drop, Some, None, Option, sym, refl, ap, ◌∙◌, subst, arith, length-append}
+use Rattle.std.proofs.Common.{◌≡◌, ℕ, zero, suc, ◌+◌, ◌≤◌, true, false, cond, not, ◌&&◌, eqb, leb, List, [], ◌∷◌, ◌++◌, length, take, drop, Some, None, Option, sym, refl, ap, ◌∙◌, subst, arith, length-append}
 use Rattle.std.proofs.lemmas.List.{drop-drop, drop_at, take_at, length-drop}
 use Rattle.std.proofs.lemmas.Bool.{and_parts, leb-true}
 use Rattle.basics.proofs.ByteLaws.{absurd-none, same_some}
@@ -8,7 +8,7 @@ use Rattle.layouts.specs.declared.field.Field.TheVariants.{Record, Range, Number
 use Rattle.layouts.specs.Kinds.{Shape, shape}
 use Rattle.layouts.specs.Layouts.{place, layout_at, or_empty, letter, figured, later, lawful_layout, is_lawful}
 use Rattle.layouts.proofs.Laws.{layout-law, lawful-layouts}
-use Rattle.layouts.proofs.Places.{drop-at-place, drop-at-none}
+use Rattle.layouts.proofs.Places.{place-zero}
 use Rattle.lines.specs.Belongs.{Lawful, Parts, joining, Follows}
 use Rattle.lines.proofs.Names.{lawful-at}
 use Rattle.values.specs.declared.row.ValueRow.{ValueRow}
@@ -54,8 +54,19 @@ narrow (OneOf a b c d) h = tt
 narrow (Lines low high) h = tt
 narrow (AllOrNoLines n) h = tt
 
-pub narrow_at : (ls : List (List Field)) (j i : ℕ) (f : Field) (x : Shape) → is_lawful ls ≡ true → place (layout_at ls j) i ≡ Some f → x ≡ shape f → Narrow x
-narrow_at ls j i f x law e is = subst Narrow (sym is) (narrow f (set-figured ls j i f (place ls j) law refl e))
+-- all figures are those that their kinds allow
+abbrev pub Figured : List Field → Type 0
+Figured fs = (i : ℕ) (f : Field) → place fs i ≡ Some f → figured f ≡ true
+
+pub all_figured : (ls : List (List Field)) (j : ℕ) → is_lawful ls ≡ true → Figured (layout_at ls j)
+all_figured ls j law i f e = set-figured ls j i f (place ls j) law refl e
+
+pub figured-rest : (f : Field) (fs : List Field) → Figured (f ∷ fs) → Figured fs
+figured-rest f fs h zero g e = absurd-none (sym (place-zero fs) ∙ e)
+figured-rest f fs h (suc i) g e = h (suc (suc i)) g e
+
+pub narrow_first : (f : Field) (fs : List Field) (x : Shape) → Figured (f ∷ fs) → x ≡ shape f → Narrow x
+narrow_first f fs x h is = subst Narrow (sym is) (narrow f (h 1 f refl))
 
 -- a line that follows a layout begins with its first field
 record Begun (x : Shape) (fs : List Field) (t : List ℕ) : Type 0 where
@@ -70,46 +81,37 @@ begun-at f fs (s ∷ ss) t h e =
     let b : joining ss ≡ drop (extent (shape f) t) t = sym (drop_at s (joining ss) _ n) ∙ ap (drop (extent (shape f) t)) e in
     record { lawful = subst (Lawful (shape f)) a h.0; after = record { parts = ss; each = h.1; whole = b } }
 
-module _ (l : List Field) (line : List ℕ) (i p : ℕ) (f : Field) (x : Shape) (e : place l i ≡ Some f) (is : x ≡ shape f) (h : Follows (drop (i - 1) l) (drop p line)) where
-  begun : Begun x (drop i l) (drop p line)
-  begun =
-      let g = subst (λ fs. Follows fs (drop p line)) (drop-at-place l i f e) h in
-      subst (λ y. Begun y (drop i l) (drop p line)) (sym is) (begun-at f (drop i l) g.parts (drop p line) g.each g.whole)
+module _ (f : Field) (fs : List Field) (line : List ℕ) (p : ℕ) (x : Shape) (is : x ≡ shape f) (h : Follows (f ∷ fs) (drop p line)) where
+  begun : Begun x fs (drop p line)
+  begun = subst (λ y. Begun y fs (drop p line)) (sym is) (begun-at f fs h.parts (drop p line) h.each h.whole)
 
   pub part-lawful : Lawful x (take (extent x (drop p line)) (drop p line))
   part-lawful = begun.lawful
 
 -- the same with the part that was cut
-pub record Turn (l : List Field) (line : List ℕ) (i p : ℕ) (x : Shape) (s : List ℕ) : Type 0 where
+pub record Turn (f : Field) (fs : List Field) (line : List ℕ) (p : ℕ) (x : Shape) (s : List ℕ) : Type 0 where
   pub lawful : Lawful x s
   pub inside : p + length s ≤ length line
-  pub after : Follows (drop (i + 1 - 1) l) (drop (p + length s) line)
-  pub rows : rows_in (drop (i - 1) l) p (cuts (drop (i - 1) l) (drop p line)) ≡ field_rows x p s ++ rows_in (drop (i + 1 - 1) l) (p + length s) (cuts (drop (i + 1 - 1) l) (drop (p + length s) line))
+  pub after : Follows fs (drop (p + length s) line)
+  pub rows : rows_in (f ∷ fs) p (cuts (f ∷ fs) (drop p line)) ≡ field_rows x p s ++ rows_in fs (p + length s) (cuts fs (drop (p + length s) line))
 
-pub turn : (l : List Field) (line : List ℕ) (i p : ℕ) (f : Field) (x : Shape) (s : List ℕ) → p ≤ length line → place l i ≡ Some f → x ≡ shape f → Follows (drop (i - 1) l) (drop p line) → s ≡ take (extent x (drop p line)) (drop p line) → Turn l line i p x s
-turn l line i p f x s le e is h cut =
+pub turn : (f : Field) (fs : List Field) (line : List ℕ) (p : ℕ) (x : Shape) (s : List ℕ) → p ≤ length line → x ≡ shape f → Follows (f ∷ fs) (drop p line) → s ≡ take (extent x (drop p line)) (drop p line) → Turn f fs line p x s
+turn f fs line p x s le is h cut =
     let t : List ℕ = drop p line in
-    let b = begun l line i p f x e is h in
+    let b = begun f fs line p x is h in
     let n : length s ≡ extent x t = ap length cut ∙ cut-whole x t b.lawful in
-    let back : i ≡ i + 1 - 1 = omega arith in
     let d : drop (extent x t) t ≡ drop (p + length s) line = drop-drop (extent x t) p line ∙ ap (λ k. drop (p + k) line) (sym n) in
     let w = cut-within x t b.lawful in
     let m = length-drop p line in
     record {
       lawful = subst (Lawful x) (sym cut) b.lawful;
       inside = omega arith;
-      after = subst (λ k. Follows (drop k l) (drop (p + length s) line)) back (subst (Follows (drop i l)) d b.after);
+      after = subst (Follows fs) d b.after;
       rows =
-          ap (λ fs. rows_in fs p (cuts fs t)) (drop-at-place l i f e)
-          ∙ ap (λ y. field_rows y p (take (extent y t) t) ++ rows_in (drop i l) (p + length (take (extent y t) t)) (cuts (drop i l) (drop (extent y t) t))) (sym is)
-          ∙ ap (λ u. field_rows x p u ++ rows_in (drop i l) (p + length u) (cuts (drop i l) (drop (extent x t) t))) (sym cut)
-          ∙ ap (λ u. field_rows x p s ++ rows_in (drop i l) (p + length s) (cuts (drop i l) u)) d
-          ∙ ap (λ k. field_rows x p s ++ rows_in (drop k l) (p + length s) (cuts (drop k l) (drop (p + length s) line))) back;
+          ap (λ y. field_rows y p (take (extent y t) t) ++ rows_in fs (p + length (take (extent y t) t)) (cuts fs (drop (extent y t) t))) (sym is)
+          ∙ ap (λ u. field_rows x p u ++ rows_in fs (p + length u) (cuts fs (drop (extent x t) t))) (sym cut)
+          ∙ ap (λ u. field_rows x p s ++ rows_in fs (p + length s) (cuts fs u)) d;
     }
-
--- past the last field no row is left
-pub rows_end : (l : List Field) (line : List ℕ) (i p : ℕ) → 1 ≤ i → place l i ≡ None → rows_in (drop (i - 1) l) p (cuts (drop (i - 1) l) (drop p line)) ≡ []
-rows_end l line i p h e = ap (λ fs. rows_in fs p (cuts fs (drop p line))) (drop-at-none l i h e)
 
 -- one field's rows laid
 pub laid_more : (old cur new ys zs all : List ValueRow) (u v : ℕ) → all ≡ ys ++ zs → new ≡ laid cur u ys → v ≡ u + length ys → laid cur u all ≡ old → laid new v zs ≡ old
@@ -120,24 +122,15 @@ pub length-split : (all ys zs : List ValueRow) → all ≡ ys ++ zs → length a
 length-split all ys zs e = ap length e ∙ length-append ys zs
 
 -- one turn of the search for a part: it is this one, or among what is left
-module _ (l : List Field) (line : List ℕ) (i p : ℕ) (f : Field) (x : Shape) (s : List ℕ) (k : ℕ) (le : p ≤ length line) (e : place l i ≡ Some f) (is : x ≡ shape f) (h : Follows (drop (i - 1) l) (drop p line)) (cut : s ≡ take (extent x (drop p line)) (drop p line)) where
-  part-turn : part_of k (drop (i - 1) l) (cuts (drop (i - 1) l) (drop p line)) ≡ cond (eqb (letter f) k) s (part_of k (drop (i + 1 - 1) l) (cuts (drop (i + 1 - 1) l) (drop (p + length s) line)))
+module _ (f : Field) (fs : List Field) (line : List ℕ) (p : ℕ) (x : Shape) (s : List ℕ) (k : ℕ) (is : x ≡ shape f) (h : Follows (f ∷ fs) (drop p line)) (cut : s ≡ take (extent x (drop p line)) (drop p line)) where
+  part-turn : part_of k (f ∷ fs) (cuts (f ∷ fs) (drop p line)) ≡ cond (eqb (letter f) k) s (part_of k fs (cuts fs (drop (p + length s) line)))
   part-turn =
       let t : List ℕ = drop p line in
-      let n : length s ≡ extent x t = ap length cut ∙ cut-whole x t (part-lawful l line i p f x e is h) in
-      let back : i ≡ i + 1 - 1 = omega arith in
+      let n : length s ≡ extent x t = ap length cut ∙ cut-whole x t (part-lawful f fs line p x is h) in
       let d : drop (extent x t) t ≡ drop (p + length s) line = drop-drop (extent x t) p line ∙ ap (λ k. drop (p + k) line) (sym n) in
-      ap (λ fs. part_of k fs (cuts fs t)) (drop-at-place l i f e)
-      ∙ ap (λ y. cond (eqb (letter f) k) (take (extent y t) t) (part_of k (drop i l) (cuts (drop i l) (drop (extent y t) t)))) (sym is)
-      ∙ ap (λ u. cond (eqb (letter f) k) u (part_of k (drop i l) (cuts (drop i l) (drop (extent x t) t)))) (sym cut)
-      ∙ ap (λ u. cond (eqb (letter f) k) s (part_of k (drop i l) (cuts (drop i l) u))) d
-      ∙ ap (λ m. cond (eqb (letter f) k) s (part_of k (drop m l) (cuts (drop m l) (drop (p + length s) line)))) back
+      ap (λ y. cond (eqb (letter f) k) (take (extent y t) t) (part_of k fs (cuts fs (drop (extent y t) t)))) (sym is)
+      ∙ ap (λ u. cond (eqb (letter f) k) u (part_of k fs (cuts fs (drop (extent x t) t)))) (sym cut)
+      ∙ ap (λ u. cond (eqb (letter f) k) s (part_of k fs (cuts fs u))) d
 
-  pub part-here : eqb (letter f) k ≡ true → part_of k (drop (i - 1) l) (cuts (drop (i - 1) l) (drop p line)) ≡ s
-  part-here t = part-turn ∙ ap (λ b. cond b s (part_of k (drop (i + 1 - 1) l) (cuts (drop (i + 1 - 1) l) (drop (p + length s) line)))) t
-
-  pub part-later : eqb (letter f) k ≡ false → part_of k (drop (i - 1) l) (cuts (drop (i - 1) l) (drop p line)) ≡ part_of k (drop (i + 1 - 1) l) (cuts (drop (i + 1 - 1) l) (drop (p + length s) line))
-  part-later t = part-turn ∙ ap (λ b. cond b s (part_of k (drop (i + 1 - 1) l) (cuts (drop (i + 1 - 1) l) (drop (p + length s) line)))) t
-
-pub part_none : (l : List Field) (line : List ℕ) (i p k : ℕ) → 1 ≤ i → place l i ≡ None → part_of k (drop (i - 1) l) (cuts (drop (i - 1) l) (drop p line)) ≡ []
-part_none l line i p k h e = ap (λ fs. part_of k fs (cuts fs (drop p line))) (drop-at-none l i h e)
+  pub part-later : eqb (letter f) k ≡ false → part_of k (f ∷ fs) (cuts (f ∷ fs) (drop p line)) ≡ part_of k fs (cuts fs (drop (p + length s) line))
+  part-later t = part-turn ∙ ap (λ b. cond b s (part_of k fs (cuts fs (drop (p + length s) line)))) t

@@ -1,12 +1,15 @@
-// The fields of a line, one after another.
+// The fields of a line, one after another. A layout is told by its set and its number, as in the set's
+// own calls.
 ghost use Rattle.std.specs.Prelude.{◌≡◌, ◌≤◌, ◌++◌, length, drop};
 ghost use Rattle.layouts.specs.Layouts.{layout_at};
 ghost use Rattle.lines.specs.Belongs.{Follows};
 ghost use Rattle.values.specs.Rows.{rows_of};
 
-use crate::parts::{count_part, part_at, put_part};
+use crate::parts::{Cut, count_part, part_at};
+use basics::rows::RowStack;
+use layouts::fields::fields_of;
 use layouts::set::LayoutSet;
-use values::form::form_of;
+use values::form::Form;
 use values::row::ValueRow;
 
 // How many rows the values of a line of layout j take.
@@ -16,13 +19,11 @@ pub(crate) fn count_rows<S: LayoutSet>(set: &S, j: usize, line: &[u8]) -> usize
 {
     let mut needed = 0;
     let mut before = 0;
-    let mut i = 1;
-    while let Some(f) = set.field(j, i) {
-        let form = form_of(f);
+    for f in fields_of(set, j) {
+        let form = Form::from(f);
         let part = part_at(form, line, before);
         needed += count_part(form, part);
         before += part.len();
-        i += 1;
     }
     needed
 }
@@ -33,14 +34,13 @@ pub(crate) fn put_rows<S: LayoutSet>(set: &S, j: usize, line: &[u8], rows: &mut 
     requires room { length (rows_of (layout_at (S.meaning set.now) j) line.now) ≤ length rows.old }
     ensures { rows.new ≡ rows_of (layout_at (S.meaning set.now) j) line.now ++ drop (length (rows_of (layout_at (S.meaning set.now) j) line.now)) rows.old }
 {
-    let mut used = 0;
+    let mut stack = RowStack::over(rows, 0);
     let mut before = 0;
-    let mut i = 1;
-    while let Some(f) = set.field(j, i) {
-        let form = form_of(f);
+    for f in fields_of(set, j) {
+        let form = Form::from(f);
         let part = part_at(form, line, before);
-        used = put_part(form, part, before, rows, used);
+        let cut = Cut { part, before };
+        cut.put(form, &mut stack);
         before += part.len();
-        i += 1;
     }
 }

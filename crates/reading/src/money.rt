@@ -14,9 +14,10 @@ use basics::decimal;
 use basics::money::{Amount, Currency};
 use basics::refusal::Refusal;
 use lawful::layout::letter_of;
+use layouts::fields::fields_of;
 use layouts::set::LayoutSet;
 use lines::judge::judge;
-use values::form::form_of;
+use values::form::Form;
 
 // What a line pays.
 #[derive(Clone, Copy)]
@@ -25,20 +26,19 @@ pub struct Money {
     pub currency: Currency,
 }
 
-// The part of the first field of a kind, in a line of layout j.
+// The part of the first field of a kind, in a line of layout j. The kind is told by its letter, which
+// is its name in the rules and in the definition.
 fn part_of<'a, S: LayoutSet>(set: &S, j: usize, line: &'a [u8], kind: u8) -> &'a [u8]
     requires { Follows (layout_at (S.meaning set.now) j) line.now }
     ensures { result.now ≡ part_of kind (layout_at (S.meaning set.now) j) (cuts (layout_at (S.meaning set.now) j) line.now) }
 {
     let mut before = 0;
-    let mut i = 1;
-    while let Some(f) = set.field(j, i) {
-        let part = part_at(form_of(f), line, before);
+    for f in fields_of(set, j) {
+        let part = part_at(Form::from(f), line, before);
         if letter_of(f) == kind {
             return part;
         }
         before += part.len();
-        i += 1;
     }
     &line[0..0]
 }

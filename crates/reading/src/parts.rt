@@ -9,8 +9,9 @@ ghost use Rattle.values.specs.Values.{extent};
 ghost use Rattle.values.specs.Rows.{number_row, text_row, line_rows, field_rows, laid};
 ghost use Rattle.reading.specs.Reading.{Narrow};
 
+use basics::decimal;
+use basics::rows::RowStack;
 use basics::text::trimmed;
-use basics::{decimal, rows};
 use values::form::Form;
 use values::row::ValueRow;
 
@@ -43,69 +44,74 @@ fn text_row(before: usize, part: &[u8]) -> ValueRow
     }
 }
 
-// Puts a row behind the used ones, where one is free, and answers how many are used then.
-fn lay(rows: &mut [ValueRow], used: usize, row: ValueRow) -> usize
-    requires { used < length rows.old }
-    ensures laid { rows.new ≡ slice_set rows.old used row }
-    ensures used { result ≡ used + 1 }
+// A part of a line, behind so many bytes of it.
+#[derive(Clone, Copy)]
+pub(crate) struct Cut<'a> {
+    pub(crate) part: &'a [u8],
+    pub(crate) before: usize,
+    // Bytes of a line can be counted.
+    ghost near: { before + length part.now < 2 ^ 63 },
+}
+
+// Puts a row on top of a stack that has a free one.
+fn lay(stack: &mut RowStack<'_, ValueRow>, row: ValueRow)
+    requires { stack.old.used < length stack.old.rows.now }
+    ensures lent { stack.new.rows.ghost_name ≡ stack.old.rows.ghost_name }
+    ensures laid { stack.new.rows.now ≡ slice_set stack.old.rows.now stack.old.used row }
+    ensures used { stack.new.used ≡ stack.old.used + 1 }
 {
-    match rows::put(rows, used, row) {
-        Ok(n) => n,
-        Err(_) => used,
+    let _ = stack.push(row);
+}
+
+impl Cut<'_> {
+    // Puts a row for each of n lines. By index, which each row's place is computed from; the contract
+    // speaks of n.
+    fn put_lines(&self, n: usize, stack: &mut RowStack<'_, ValueRow>)
+        requires whole { (length self.now.part.now ≡ 35 * n) × (n < 100) }
+        requires room { stack.old.used + n ≤ length stack.old.rows.now }
+        ensures lent { stack.new.rows.ghost_name ≡ stack.old.rows.ghost_name }
+        ensures rows { stack.new.rows.now ≡ laid stack.old.rows.now stack.old.used (line_rows n self.now.before self.now.part.now) }
+        ensures used { stack.new.used ≡ stack.old.used + n }
+    {
+        for k in 0..n {
+            let at = 35 * k;
+            lay(stack, text_row(self.before + at, &self.part[at..at + 35]));
+        }
     }
-}
 
-// Puts a row for each of n lines, which begin behind so many bytes of the line.
-fn put_lines(n: usize, part: &[u8], before: usize, rows: &mut [ValueRow], used: usize) -> usize
-    requires whole { (length part.now ≡ 35 * n) × (n < 100) }
-    requires near { before + length part.now < 2 ^ 63 }
-    requires room { used + n ≤ length rows.old }
-    ensures rows { rows.new ≡ laid rows.old used (line_rows n before part.now) }
-    ensures used { result ≡ used + n }
-{
-    let mut top = used;
-    for k in 0..n {
-        let at = 35 * k;
-        top = lay(rows, top, text_row(before + at, &part[at..at + 35]));
+    // Puts the rows of a block.
+    fn put_block(&self, stack: &mut RowStack<'_, ValueRow>)
+        requires counted { all (allowed Digit) (take 2 self.now.part.now) ≡ true }
+        requires whole { (length self.now.part.now ≡ 2 + 35 * number_of (take 2 self.now.part.now)) × (number_of (take 2 self.now.part.now) < 100) }
+        requires room { stack.old.used + (1 + number_of (take 2 self.now.part.now)) ≤ length stack.old.rows.now }
+        ensures lent { stack.new.rows.ghost_name ≡ stack.old.rows.ghost_name }
+        ensures rows { stack.new.rows.now ≡ laid stack.old.rows.now stack.old.used (number_row (number_of (take 2 self.now.part.now)) ∷ line_rows (number_of (take 2 self.now.part.now)) (self.now.before + 2) (drop 2 self.now.part.now)) }
+        ensures used { stack.new.used ≡ stack.old.used + (1 + number_of (take 2 self.now.part.now)) }
+    {
+        let n = number_in(&self.part[0..2]);
+        lay(stack, number_row(n));
+        let lines = Cut {
+            part: &self.part[2..],
+            before: self.before + 2,
+        };
+        lines.put_lines(n as usize, stack);
     }
-    top
-}
 
-// Puts the rows of a block.
-fn put_block(part: &[u8], before: usize, rows: &mut [ValueRow], used: usize) -> usize
-    requires counted { all (allowed Digit) (take 2 part.now) ≡ true }
-    requires whole { (length part.now ≡ 2 + 35 * number_of (take 2 part.now)) × (number_of (take 2 part.now) < 100) }
-    requires near { before + length part.now < 2 ^ 63 }
-    requires room { used + (1 + number_of (take 2 part.now)) ≤ length rows.old }
-    ensures rows { rows.new ≡ laid rows.old used (number_row (number_of (take 2 part.now)) ∷ line_rows (number_of (take 2 part.now)) (before + 2) (drop 2 part.now)) }
-    ensures used { result ≡ used + (1 + number_of (take 2 part.now)) }
-{
-    let n = number_in(&part[0..2]);
-    let top = lay(rows, used, number_row(n));
-    put_lines(n as usize, &part[2..], before + 2, rows, top)
-}
-
-// Puts the rows of a field's part, which begins behind so many bytes of the line.
-pub(crate) fn put_part(
-    form: Form,
-    part: &[u8],
-    before: usize,
-    rows: &mut [ValueRow],
-    used: usize,
-) -> usize
-    requires lawful { (Lawful (shape_of form) part.now) × (Narrow (shape_of form)) }
-    requires near { before + length part.now < 2 ^ 63 }
-    requires room { used + length (field_rows (shape_of form) before part.now) ≤ length rows.old }
-    ensures rows { rows.new ≡ laid rows.old used (field_rows (shape_of form) before part.now) }
-    ensures used { result ≡ used + length (field_rows (shape_of form) before part.now) }
-{
-    match form {
-        Form::Name(_) => used,
-        Form::Fill(_, _) => used,
-        Form::Figures(_, _) => lay(rows, used, number_row(number_in(part))),
-        Form::Letters(_, _, _) => lay(rows, used, text_row(before, part)),
-        Form::Code(_, _, _, _) => lay(rows, used, number_row(u64::from(part[0]))),
-        Form::Block(_, _, _) => put_block(part, before, rows, used),
+    // Puts the rows of a field's part.
+    pub(crate) fn put(&self, form: Form, stack: &mut RowStack<'_, ValueRow>)
+        requires lawful { (Lawful (shape_of form) self.now.part.now) × (Narrow (shape_of form)) }
+        requires room { stack.old.used + length (field_rows (shape_of form) self.now.before self.now.part.now) ≤ length stack.old.rows.now }
+        ensures lent { stack.new.rows.ghost_name ≡ stack.old.rows.ghost_name }
+        ensures rows { stack.new.rows.now ≡ laid stack.old.rows.now stack.old.used (field_rows (shape_of form) self.now.before self.now.part.now) }
+        ensures used { stack.new.used ≡ stack.old.used + length (field_rows (shape_of form) self.now.before self.now.part.now) }
+    {
+        match form {
+            Form::Name(_) | Form::Fill(_, _) => {}
+            Form::Figures(_, _) => lay(stack, number_row(number_in(self.part))),
+            Form::Letters(_, _, _) => lay(stack, text_row(self.before, self.part)),
+            Form::Code(_, _, _, _) => lay(stack, number_row(u64::from(self.part[0]))),
+            Form::Block(_, _, _) => self.put_block(stack),
+        }
     }
 }
 
@@ -132,9 +138,9 @@ fn width_in(form: Form, rest: &[u8]) -> usize
 {
     match form {
         Form::Name(_) => 8,
-        Form::Fill(_, w) => w as usize,
-        Form::Figures(w, _) => w as usize,
-        Form::Letters(w, _, _) => w as usize,
+        Form::Fill(_, w) => usize::from(w),
+        Form::Figures(w, _) => usize::from(w),
+        Form::Letters(w, _, _) => usize::from(w),
         Form::Code(_, _, _, _) => 1,
         Form::Block(_, _, _) => 2 + 35 * number_in(&rest[0..2]) as usize,
     }

@@ -18,16 +18,8 @@ pub struct Reading {
     pub rows: usize,
 }
 
-// The values do not fit the rows.
-const TOO_FEW_ROWS: Refusal = Refusal {
-    reason: Reason::TooFewValueRows,
-    layer: Layer::Lines,
-    line: 0,
-    field: 0,
-    byte: 0,
-};
-
-// The digits of a layout that begins with this field.
+// The digits of a layout that begins with this field. A lawful layout begins with a record's name, so
+// the 0 is never read; an `Option` would have to be opened by its caller.
 fn digits_in(first: Option<Field>) -> u32
     ensures { result ≡ or_zero (record_at first) }
 {
@@ -45,7 +37,7 @@ fn read_rows<S: LayoutSet>(set: &S, line: &[u8], rows: &mut [ValueRow]) -> Resul
     let j = judge(set, line)?;
     let needed = count_rows(set, j, line);
     if needed > rows.len() {
-        return Err(TOO_FEW_ROWS);
+        return Err(Refusal::new(Reason::TooFewValueRows, Layer::Lines));
     }
     put_rows(set, j, line, rows);
     Ok(Reading {

@@ -4,7 +4,8 @@ use Rattle.basics.specs.declared.refusal.Refusal.{Refusal}
 use Rattle.layouts.specs.declared.field.Field.{Field}
 use Rattle.layouts.specs.Layouts.{is_lawful}
 use Rattle.lines.specs.Judging.{judged}
-use Rattle.files.proofs.Cuts.{by_lines}
+use Rattle.files.specs.Lines.{FirstLine}
+use Rattle.files.proofs.Cuts.{Ends, by_lines}
 use Rattle.reports.specs.declared.fault_row.FaultRow.{FaultRow}
 use Rattle.reports.specs.Surveys.{fault_of, rest_fault, faults_from, lines_in}
 use Rattle.reports.specs.Reports.{AllUncut, NumbersFit}
@@ -22,6 +23,9 @@ uncut-rest n (b ∷ bs) h = (record { line = h; field = omega arith; byte = omeg
 few-rest : (n : ℕ) (f : List ℕ) → length (rest_fault n f) ≤ length f
 few-rest n [] = omega arith
 few-rest n (b ∷ bs) = omega arith
+
+ends-first : (f : List ℕ) (k : ℕ) → Ends k f → FirstLine f (take k f) (drop (k + 2) f)
+ends-first f k r = record { whole = r.whole; uncut = r.line }
 
 module _ (ls : List (List Field)) (law : is_lawful ls ≡ true) where
   uncut-line : (n : ℕ) (line : List ℕ) (r : Result ℕ Refusal) → judged ls line ≡ r → n < 100000 → length line ≤ 65536 → AllUncut (fault_of n r)
@@ -44,7 +48,7 @@ module _ (ls : List (List Field)) (law : is_lawful ls ≡ true) where
       let w = r.within in
       let line = take k f in
       let short : length line ≤ 65536 = omega (arith, length-take k f) in
-      subst AllUncut (sym (faults-first ls n f k r))
+      subst AllUncut (sym (faults-first f (take k f) (drop (k + 2) f) (ends-first f k r) ls n))
       (uncut-append (fault_of n (judged ls line)) (faults_from ls (n + 1) (drop (k + 2) f))
       (uncut-line n line (judged ls line) refl (omega arith) short)
       (more (n + 1) (omega (arith, length-drop (k + 2) f)))))
@@ -57,13 +61,13 @@ module _ (ls : List (List Field)) (law : is_lawful ls ≡ true) where
       let w = r.within in
       let this = fault_of n (judged ls (take k f)) in
       let left = faults_from ls (n + 1) (drop (k + 2) f) in
-      omega (arith, ap length (faults-first ls n f k r), length-append this left, one-fault n (judged ls (take k f)), more (n + 1), length-drop (k + 2) f))
+      omega (arith, ap length (faults-first f (take k f) (drop (k + 2) f) (ends-first f k r) ls n), length-append this left, one-fault n (judged ls (take k f)), more (n + 1), length-drop (k + 2) f))
 
 few-lines : (f : List ℕ) → lines_in f ≤ length f
 few-lines =
     by_lines (λ f. lines_in f ≤ length f)
     (λ f e. omega (arith, lines_rest f e, few-rest 0 f))
-    (λ f k r more. let w = r.within in omega (arith, lines-first f k r, length-drop (k + 2) f))
+    (λ f k r more. let w = r.within in omega (arith, lines-first f (take k f) (drop (k + 2) f) (ends-first f k r), length-drop (k + 2) f))
 
 pub numbers_fit : (ls : List (List Field)) (f : List ℕ) → is_lawful ls ≡ true → length f ≤ 65536 → NumbersFit ls f
 numbers_fit ls f law h =

@@ -1,14 +1,7 @@
 -- Laws of rows put over others.
-use Rattle.std.proofs.Common.{◌≡◌, ℕ, suc, ◌+◌, ◌<◌, ◌≤◌, List, [], ◌∷◌, ◌++◌, length, set, Ok, Err, Result, sym, refl, ap, ◌∙◌, add-zero, arith, MatchResult}
-use Rattle.std.proofs.lemmas.List.{set_past}
-use Rattle.basics.specs.declared.rows.NoFreeRow.{NoFreeRow}
+use Rattle.std.proofs.Common.{◌≡◌, ℕ, suc, ◌+◌, List, [], ◌∷◌, ◌++◌, length, set, sym, refl, ap, ◌∙◌, add-zero, arith}
 use Rattle.reports.specs.declared.fault_row.FaultRow.{FaultRow}
 use Rattle.reports.specs.Surveys.{laid, laid_over}
-
--- what a row put at a place leaves, where there may be no such place
-pub row_put : (r : Result ℕ NoFreeRow) (rows after : List FaultRow) (i : ℕ) (x : FaultRow) → MatchResult r (λ n. (i < length rows) × (after ≡ set rows i x) × (n ≡ i + 1)) (λ _. (length rows ≤ i) × (after ≡ rows)) → after ≡ set rows i x
-row_put (Ok n) rows after i x h = h.1
-row_put (Err e) rows after i x h = h.1 ∙ sym (set_past rows i x h.0)
 
 pub laid-append : (rows : List FaultRow) (i : ℕ) (xs ys : List FaultRow) → laid rows i (xs ++ ys) ≡ laid (laid rows i xs) (i + length xs) ys
 laid-append rows i [] ys = ap (λ n. laid rows n ys) (sym (add-zero i))

@@ -1,4 +1,3 @@
-pub mod Columns
 pub mod Putting
 pub mod Laying
 pub mod Faults

@@ -14,6 +14,7 @@ const MOST_BYTES: usize = 65_536;
 // So many bad lines are shown.
 const MOST_SHOWN: usize = 100;
 
+// What a row of the fixed memory holds at first: there is to be no heap.
 const NO_FAULT: FaultRow = FaultRow {
     line: 0,
     field: 0,

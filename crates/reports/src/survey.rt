@@ -4,12 +4,14 @@ ghost use Rattle.lines.specs.Judging.{judged};
 ghost use Rattle.reports.specs.Surveys.{fault_of, faults_of, lines_in, laid, laid_over};
 
 use crate::fault_row::{FaultRow, Survey as Found};
+use basics::refusal::Reason;
 use basics::rows;
-use files::cut::line_end;
+use files::cut::lines_of;
 use layouts::set::LayoutSet;
 use lines::judge::judge;
 
-// Puts the row at its place, if there is such a place.
+// Puts the row at its place, if there is such a place. This is no stack with its count: bad lines are
+// counted on when the rows have run out.
 fn note(rows: &mut [FaultRow], place: usize, row: FaultRow)
     ensures { rows.new ≡ set rows.old place row }
 {
@@ -48,22 +50,21 @@ pub fn survey<S: LayoutSet>(set: &S, bytes: &[u8], rows: &mut [FaultRow]) -> Fou
     ensures bad { result.bad ≡ length (faults_of (S.meaning set.now) bytes.now) }
     ensures rows { rows.new ≡ laid_over rows.old (faults_of (S.meaning set.now) bytes.now) }
 {
+    // No `for` over `left.by_ref()`: the proof did not close, since what is left is not known then.
+    let mut left = lines_of(bytes);
     let mut lines = 0;
     let mut bad = 0;
-    let mut at = 0;
-    while let Some(k) = line_end(&bytes[at..]) {
-        let end = at + k;
+    while let Some(line) = left.next() {
         lines += 1;
-        bad = note_line(set, &bytes[at..end], lines, rows, bad);
-        at = end + 2;
+        bad = note_line(set, line, lines, rows, bad);
     }
-    if at < bytes.len() {
+    if !left.rest().is_empty() {
         lines += 1;
         let row = FaultRow {
             line: lines,
             field: 0,
             byte: 0,
-            number: 22,
+            number: Reason::UnendedLine.number(),
         };
         note(rows, bad, row);
         bad += 1;

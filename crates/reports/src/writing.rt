@@ -6,14 +6,6 @@ use crate::fault_row::{FaultRow, Survey};
 use basics::decimal;
 use basics::refusal::{Layer, Reason, Refusal};
 
-const NO_ROOM: Refusal = Refusal {
-    reason: Reason::NoRoom,
-    layer: Layer::Lines,
-    line: 0,
-    field: 0,
-    byte: 0,
-};
-
 // `LINES nnnnn BAD nnnnn` and LF.
 fn head_line(found: Survey) -> [u8; 22]
     ensures { result ≡ head_line found.lines found.bad }
@@ -32,7 +24,7 @@ fn fault_line(row: FaultRow) -> [u8; 40]
     decimal::put(&mut line[5..10], row.line as u64);
     decimal::put(&mut line[17..19], row.field as u64);
     decimal::put(&mut line[25..30], row.byte as u64);
-    decimal::put(&mut line[37..39], row.number as u64);
+    decimal::put(&mut line[37..39], u64::from(row.number));
     line
 }
 
@@ -51,6 +43,7 @@ fn put_lines(room: &mut [u8], found: Survey, rows: &[FaultRow])
     ensures { room.new ≡ put_into (shown found.lines found.bad rows.now) room.old }
 {
     put_at(room, 0, &head_line(found));
+    // The place runs on with the lines; out of the row's index it would be no plainer.
     let mut at = 22;
     for row in rows {
         put_at(room, at, &fault_line(*row));
@@ -64,7 +57,7 @@ pub(crate) fn put_text(room: &mut [u8], text: &[u8]) -> Result<usize, Refusal>
     ensures room { room.new ≡ room_after text.now room.old }
 {
     if room.len() < text.len() {
-        return Err(NO_ROOM);
+        return Err(Refusal::new(Reason::NoRoom, Layer::Lines));
     }
     put_at(room, 0, text);
     Ok(text.len())
@@ -82,7 +75,7 @@ pub(crate) fn put_report(
 {
     let length = 22 + 40 * rows.len();
     if room.len() < length {
-        return Err(NO_ROOM);
+        return Err(Refusal::new(Reason::NoRoom, Layer::Lines));
     }
     put_lines(room, found, rows);
     Ok(length)

@@ -9,7 +9,8 @@ use changes::change_row::ChangeRow;
 use drafts::draft::Draft;
 use layouts::set::LayoutSet;
 
-// One of the five calls with its delivery, its line, its number.
+// One of the five calls with its delivery, its line, its number. An enum, and no closure: a run is a
+// list of calls, and the law over runs tells them apart.
 #[derive(Clone, Copy)]
 pub enum Call<'a> {
     Import(&'a [u8]),

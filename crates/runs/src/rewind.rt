@@ -21,6 +21,7 @@ pub fn rewind(draft: &mut Draft, file: &mut [u8], rows: &[ChangeRow], kept: &[u8
     ensures undoes_until_it_is_refused { UndoneUntil (state draft.old file.old rows.now kept.now) result.undone (state draft.new file.new rows.now kept.now) result.refusal }
     ensures undoes_every_standing_change { UndoesEveryStandingChange (state draft.old file.old rows.now kept.now) result.undone (state draft.new file.new rows.now kept.now) result.refusal }
 {
+    // No `while`: the refusal that ends it is part of the answer.
     let mut undone = 0;
     loop {
         match draft.undo(file, rows, kept) {

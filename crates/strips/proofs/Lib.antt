@@ -1,4 +1,3 @@
-pub mod FieldLaws
 pub mod ReaderLaws
 pub mod Steps
 pub mod SetLaws

@@ -1,13 +1,12 @@
 -- What loading promises of the strips and of the set.
-use Rattle.std.proofs.Common.{◌≡◌, ℕ, List, Ok, Err, Result, sym, refl, ap, ◌∙◌, subst}
+use Rattle.std.proofs.Common.{◌≡◌, ℕ, List, Ok, Err, Result, sym, ap, ◌∙◌, subst}
 use Rattle.layouts.specs.declared.field.Field.{Field}
 use Rattle.strips.specs.declared.load.LoadError.{LoadError}
 use Rattle.strips.specs.declared.load.LoadError.TheVariants.{Refused, NoMemory}
 use Rattle.strips.specs.Loads.{read, Tells}
-use Rattle.strips.specs.Sets.{Writes, ReadExactly, RefusedRightly, Replaces}
+use Rattle.strips.specs.Sets.{Writes, ReadExactly, RefusedRightly}
 use Rattle.strips.proofs.Complete.{writes-read}
 use Rattle.strips.proofs.Sound.{read-writes}
-use Rattle.strips.proofs.Steps.{err-not-ok}
 
 pub writes-then-read : (s : List ℕ) (ls : List (List Field)) → Writes ls s → read s ≡ Ok ls
 writes-then-read s ls w = ap read (sym w.strips) ∙ writes-read ls w.lawful
@@ -15,11 +14,7 @@ writes-then-read s ls w = ap read (sym w.strips) ∙ writes-read ls w.lawful
 pub read-exactly : (s : List ℕ) → ReadExactly s
 read-exactly s = λ ls. (λ e. read-writes s ls e, λ w. writes-then-read s ls w)
 
-pub left : {T : Type 0} (r : Result T LoadError) (e : LoadError) (s : List ℕ) (was : List (List Field)) → r ≡ Err e → Tells e (read s) → Replaces r s was was
-left {T} r (Refused x) s was i h = subst (λ q. Replaces q s was was) (sym i) (h, refl)
-left {T} r NoMemory s was i h = subst (λ q. Replaces q s was was) (sym i) refl
-
 pub refused-rightly : {T : Type 0} (r : Result T LoadError) (e : LoadError) (s : List ℕ) → r ≡ Err e → Tells e (read s) → RefusedRightly r s
 refused-rightly {T} r (Refused x) s i h =
-    subst (λ q. RefusedRightly q s) (sym i) (λ ls w. err-not-ok (sym h ∙ writes-then-read s ls w))
+    subst (λ q. RefusedRightly q s) (sym i) (λ ls w. let e = writes-then-read s ls w in cc)
 refused-rightly {T} r NoMemory s i h = subst (λ q. RefusedRightly q s) (sym i) tt

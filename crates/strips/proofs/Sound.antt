@@ -1,41 +1,31 @@
 -- What is accepted is a lawful set, and the strips are its writing.
-use Rattle.std.proofs.Common.{◌≡◌, ℕ, zero, suc, ◌+◌, ◌<◌, true, false, cond, not, ◌&&◌, eqb, ltb, leb, ◌⊎◌, List, [], ◌∷◌, ◌++◌, length, take, drop, Some, None, Ok, Err, Option, sym, refl, ap, ◌∙◌, subst, inl, inr, append_assoc, append-nil, arith}
+use Rattle.std.proofs.Common.{◌≡◌, ℕ, zero, suc, ◌+◌, ◌<◌, ◌≤◌, true, false, eqb, List, [], ◌∷◌, ◌++◌, length, take, drop, Some, Ok, Option, sym, refl, ap, ◌∙◌, subst, append_assoc, append-nil, arith}
 use Rattle.std.specs.List.{flat_map}
+use Rattle.std.proofs.lemmas.Bool.Decides.{nat_tests}
 use Rattle.std.proofs.lemmas.List.{length_push, length-take-le, take-append-drop, flat_map_more}
-use Rattle.std.proofs.lemmas.Bool.{and_parts, and_from, not-true, not_from_false, eqb-true, eq-eqb, ne_eqb, ltb-true, le-leb, cases_eq}
 use Rattle.layouts.specs.declared.field.Field.{Field}
-use Rattle.layouts.specs.Layouts.{record_of, digits_of, same_number, none_named, lawful_layout, lawful_layouts, is_lawful}
-use Rattle.layouts.proofs.Laws.{layouts-law}
+use Rattle.layouts.specs.Layouts.{digits_of, same_number, none_named, lawful_layout, lawful_layouts, is_lawful}
+use Rattle.strips.specs.declared.kind.Kind.{Kind}
+use Rattle.strips.specs.declared.kind.Kind.TheVariants.{Record}
 use Rattle.strips.specs.Strips.{kind_of, body_width, strip_of, strips_of}
 use Rattle.strips.specs.Sets.{Writes}
-use Rattle.strips.specs.Loads.{Reading, at, start, finished, closed, opened, added, stepped, width_of, read_from, read}
-use Rattle.strips.proofs.FieldStrips.{kind-letter, field-strip}
-use Rattle.strips.proofs.Steps.{err-not-ok, same_ok, followed, Took, Began, Grew, took}
+use Rattle.strips.specs.Loads.{Reading, and_then, at, start, closed, field_from, opened, added, next_layout, next_field, stepped, width_of, read_from, read}
+use Rattle.std.specs.Option.{ok_or}
+use Rattle.strips.proofs.FieldStrips.{letter_of, kind-letter, field-strip}
+use Rattle.strips.proofs.Steps.{followed}
 
 pub same-sym : (a b : Option ℕ) → same_number a b ≡ same_number b a
-same-sym None None = refl
-same-sym None (Some y) = refl
-same-sym (Some x) None = refl
-same-sym (Some x) (Some y) =
-    elim (cases_eq x y) [ inl e ↦ eq-eqb x y e ∙ sym (eq-eqb y x (sym e)) | inr n ↦ ne_eqb x y n ∙ sym (ne_eqb y x (λ e. n (sym e))) ]
+same-sym a b = grind (arith, nat_tests)
 
 pub none-push : (o : Option ℕ) (ls : List (List Field)) (l : List Field) → none_named o ls ≡ true → same_number o (digits_of l) ≡ false → none_named o (ls ++ (l ∷ [])) ≡ true
-none-push o [] l h e = and_from (not (same_number o (digits_of l))) true (not_from_false (same_number o (digits_of l)) e) refl
-none-push o (m ∷ ms) l h e =
-    let b = and_parts (not (same_number o (digits_of m))) (none_named o ms) h in
-    and_from (not (same_number o (digits_of m))) (none_named o (ms ++ (l ∷ []))) b.0 (none-push o ms l b.1 e)
+none-push o [] l h e = grind (arith, nat_tests)
+none-push o (m ∷ ms) l h e = grind (arith, nat_tests, none-push o ms l)
 
 -- one lawful layout more, whose digits are new
 lawful-push : (ls : List (List Field)) (l : List Field) → lawful_layouts ls ≡ true → lawful_layout l ≡ true → none_named (digits_of l) ls ≡ true → lawful_layouts (ls ++ (l ∷ [])) ≡ true
-lawful-push [] l h a n = and_from (lawful_layout l && true) true (and_from (lawful_layout l) true a refl) refl
+lawful-push [] l h a n = grind (arith, nat_tests)
 lawful-push (m ∷ ms) l h a n =
-    let p = layouts-law m ms h in
-    let q = and_parts (not (same_number (digits_of l) (digits_of m))) (none_named (digits_of l) ms) n in
-    let d = same-sym (digits_of m) (digits_of l) ∙ not-true (same_number (digits_of l) (digits_of m)) q.0 in
-    let ns = none-push (digits_of m) ms l p.alone d in
-    and_from (lawful_layout m && none_named (digits_of m) (ms ++ (l ∷ []))) (lawful_layouts (ms ++ (l ∷ [])))
-    (and_from (lawful_layout m) (none_named (digits_of m) (ms ++ (l ∷ []))) p.lawful ns)
-    (lawful-push ms l p.rest a q.1)
+    grind (arith, nat_tests, lawful-push ms l, none-push (digits_of m) ms l, same-sym (digits_of m) (digits_of l))
 
 -- the strips of what is read so far
 abbrev pub written : Reading → List ℕ
@@ -48,106 +38,98 @@ record Sound (r : Reading) : Type 0 where
   pub alone : none_named (digits_of r.fields) r.done ≡ true
 
 -- the open layout is finished
-record Shut (ls : List (List Field)) (l : List Field) (ks : List (List Field)) : Type 0 where
-  pub lawful : lawful_layout l ≡ true
-  pub is : ls ++ (l ∷ []) ≡ ks
-
-shut-of : (ls : List (List Field)) (l : List Field) (b : ℕ) (ks : List (List Field)) → 0 < length l → finished ls l b ≡ Ok ks → Shut ls l ks
-shut-of ls [] b ks h e = absurd (omega arith)
-shut-of ls (f ∷ fs) b ks h e =
-    elim (lawful_layout (f ∷ fs)) as (λ t. lawful_layout (f ∷ fs) ≡ t → cond t (Ok (ls ++ ((f ∷ fs) ∷ []))) (Err (at 6 b)) ≡ Ok ks → Shut ls (f ∷ fs) ks) [
-      | true ↦ λ a g. record { lawful = a; is = same_ok g }
-      | false ↦ λ a g. err-not-ok g
-    ]
-    refl e
-
 record Closed (r : Reading) (ks : List (List Field)) : Type 0 where
-  pub each : lawful_layouts ks ≡ true
   pub all : is_lawful ks ≡ true
   pub strips : strips_of ks ≡ written r
 
 closed-sound : (r : Reading) (ks : List (List Field)) → Sound r → closed r ≡ Ok ks → Closed r ks
 closed-sound r ks g e =
-    let u = shut-of r.done r.fields r.from ks g.some e in
-    let ls = r.done in
-    let l = r.fields in
-    let each = lawful-push ls l g.lawful u.lawful g.alone in
-    let n = length_push ls l in
-    let few = g.few in
-    let now = ls ++ (l ∷ []) in
-    let low = le-leb 1 (length now) (omega arith) in
-    let high = le-leb (length now) 8 (omega arith) in
-    subst (λ m. Closed r m) u.is
+    let is : r.done ++ (r.fields ∷ []) ≡ ks = grind (arith, nat_tests, g.some) in
+    record {
+      all = grind (arith, nat_tests, lawful-push r.done r.fields, length_push r.done r.fields, g.lawful, g.few, g.some, g.alone);
+      strips = ap strips_of (sym is) ∙ sym (flat_map_more (flat_map strip_of) [] r.done r.fields);
+    }
+
+-- one step keeps to it, and adds the strip of one field, which is the letter k with its body
+record Step (was : List ℕ) (k : ℕ) (s : List ℕ) (q : Reading) : Type 0 where
+  pub sound : Sound q
+  pub strips : written q ≡ was ++ (k ∷ take (width_of (kind_of k)) s)
+
+-- the field that is read is what stands there
+body-of : (b : ℕ) (q : Kind) (s : List ℕ) (f : Field) → field_from b q s ≡ Ok f → strip_of f ≡ letter_of q ∷ take (body_width q) s
+body-of b q s f e =
+    let there : body_width q ≤ length s = grind (arith, nat_tests) in
+    field-strip q (take (body_width q) s) f (length-take-le (body_width q) s there) (grind (arith, nat_tests))
+
+field-strip-of : (b : ℕ) (k : ℕ) (q : Kind) (s : List ℕ) (f : Field) → kind_of k ≡ Some q → field_from b q s ≡ Ok f → strip_of f ≡ k ∷ take (width_of (kind_of k)) s
+field-strip-of b k q s f h e =
+    body-of b q s f e
+    ∙ ap (λ x. x ∷ take (body_width q) s) (sym (kind-letter k q h))
+    ∙ ap (λ o. k ∷ take (width_of o) s) (sym h)
+
+-- a U begins the next layout behind these
+layout-step : (b k : ℕ) (ls : List (List Field)) (s : List ℕ) (q : Reading) → k ≡ 85 → lawful_layouts ls ≡ true → and_then (field_from b Record s) (opened b ls) ≡ Ok q → Step (strips_of ls) k s q
+layout-step b k ls s q u h e =
+    let c = followed (field_from b Record s) (opened b ls) q e in
+    let is : record { done = ls; fields = c.value ∷ []; from = b } ≡ q = grind (arith, nat_tests, c.second) in
+    subst (λ m. Step (strips_of ls) k s m) is
     (record {
-      each = each;
-      all = and_from (leb 1 (length now) && leb (length now) 8) (lawful_layouts now) (and_from (leb 1 (length now)) (leb (length now) 8) low high) each;
-      strips = sym (flat_map_more (flat_map strip_of) [] ls l);
+      sound = record {
+        lawful = h;
+        few = grind (arith, nat_tests, c.second);
+        some = omega arith;
+        alone = grind (arith, nat_tests, c.second);
+      };
+      strips = ap (λ t. strips_of ls ++ t) (append-nil (strip_of c.value) ∙ field-strip-of b k Record s c.value (ap kind_of u) c.first);
     })
 
--- one step keeps to it, and adds the strip of one field
-record Stepped (was : List ℕ) (f : Field) (q : Reading) : Type 0 where
-  pub sound : Sound q
-  pub strips : written q ≡ was ++ strip_of f
-
-opened-sound : (b : ℕ) (ls : List (List Field)) (f : Field) (q : Reading) → lawful_layouts ls ≡ true → opened b ls f ≡ Ok q → Stepped (strips_of ls) f q
-opened-sound b ls f q h e =
-    elim (ltb (length ls) 8) as (λ t. ltb (length ls) 8 ≡ t → cond t (cond (none_named (record_of f) ls) (Ok (record { done = ls; fields = f ∷ []; from = b })) (Err (at 7 b))) (Err (at 8 b)) ≡ Ok q → Stepped (strips_of ls) f q) [
-      | true ↦ λ few g.
-          elim (none_named (record_of f) ls) as (λ t. none_named (record_of f) ls ≡ t → cond t (Ok (record { done = ls; fields = f ∷ []; from = b })) (Err (at 7 b)) ≡ Ok q → Stepped (strips_of ls) f q) [
-            | true ↦ λ new k.
-                subst (λ m. Stepped (strips_of ls) f m) (same_ok k)
-                (record {
-                  sound = record { lawful = h; few = ltb-true (length ls) 8 few; some = omega arith; alone = new };
-                  strips = ap (λ s. strips_of ls ++ s) (append-nil (strip_of f));
-                })
-            | false ↦ λ new k. err-not-ok k
-          ]
-          refl g
-      | false ↦ λ few g. err-not-ok g
-    ]
-    refl e
-
 same_digits : (l : List Field) (f : Field) → 0 < length l → digits_of (l ++ (f ∷ [])) ≡ digits_of l
-same_digits [] f h = absurd (omega arith)
-same_digits (g ∷ gs) f h = refl
+same_digits l f h = grind arith
 
-added-sound : (r : Reading) (f : Field) → Sound r → Stepped (written r) f (added r f)
-added-sound r f g =
-    let n = length_push r.fields f in
-    record {
+-- another letter adds a field to the open layout
+field-step : (b k : ℕ) (r : Reading) (s : List ℕ) (q : Reading) → Sound r → next_field b r k s ≡ Ok q → Step (written r) k s q
+field-step b k r s q g e =
+    let c = followed (ok_or (kind_of k) (at 2 b)) (λ m. and_then (field_from b m s) (λ f. Ok (added r f))) q e in
+    let d = followed (field_from b c.value s) (λ f. Ok (added r f)) q c.second in
+    let is : added r d.value ≡ q = cc (d.second) in
+    let n = length_push r.fields d.value in
+    subst (λ m. Step (written r) k s m) is
+    (record {
       sound = record {
         lawful = g.lawful;
         few = g.few;
         some = omega arith;
-        alone = ap (λ o. none_named o r.done) (same_digits r.fields f g.some) ∙ g.alone;
+        alone = ap (λ o. none_named o r.done) (same_digits r.fields d.value g.some) ∙ g.alone;
       };
-      strips = sym (flat_map_more strip_of (flat_map (flat_map strip_of) r.done) r.fields f);
-    }
+      strips =
+          sym (flat_map_more strip_of (flat_map (flat_map strip_of) r.done) r.fields d.value)
+          ∙ ap (λ t. written r ++ t) (field-strip-of b k c.value s d.value (grind (arith, c.first)) d.first);
+    })
 
-step-sound : (b : ℕ) (r : Reading) (k : ℕ) (f : Field) (q : Reading) → Sound r → Began b r k f q ⊎ Grew r k f q → Stepped (written r) f q
-step-sound b r k f q g (inl h) =
-    let c = closed-sound r h.layouts g h.shut in
-    subst (λ s. Stepped s f q) c.strips (opened-sound b h.layouts f q c.each h.next)
-step-sound b r k f q g (inr h) = subst (λ m. Stepped (written r) f m) h.more (added-sound r f g)
-
--- the field that a step reads is what stands there
-took-strip : (b : ℕ) (r : Reading) (k : ℕ) (s : List ℕ) (q : Reading) (t : Took b r k s q) → strip_of t.field ≡ k ∷ take (width_of (kind_of k)) s
-took-strip b r k s q t =
-    let w : width_of (kind_of k) ≡ body_width t.kind = ap width_of t.letter in
-    let n = length-take-le (body_width t.kind) s t.body.there in
-    field-strip t.kind (take (body_width t.kind) s) t.field n t.body.ruled
-    ∙ ap (λ x. x ∷ take (body_width t.kind) s) (sym (kind-letter k t.kind t.letter))
-    ∙ ap (λ m. k ∷ take m s) (sym w)
-
-rejoined : (was : List ℕ) (k w : ℕ) (s : List ℕ) → (was ++ (k ∷ take w s)) ++ drop w s ≡ was ++ (k ∷ s)
-rejoined was k w s = append_assoc was (k ∷ take w s) (drop w s) ∙ ap (λ t. was ++ (k ∷ t)) (take-append-drop w s)
+step-sound : (b k : ℕ) (r : Reading) (s : List ℕ) (q : Reading) → Sound r → stepped b r k s ≡ Ok q → Step (written r) k s q
+step-sound b k r s q g e =
+    elim (eqb k 85) as (λ t. eqb k 85 ≡ t → Step (written r) k s q) [
+      | true ↦ λ h.
+          let next : next_layout b r s ≡ Ok q = grind (arith, h, e) in
+          let c = followed (closed r) (λ ls. and_then (field_from b Record s) (opened b ls)) q next in
+          let shut = closed-sound r c.value g c.first in
+          subst (λ t. Step t k s q) shut.strips (layout-step b k c.value s q (grind (arith, nat_tests, h)) (grind (arith, nat_tests, shut.all)) c.second)
+      | false ↦ λ h. field-step b k r s q g (grind (arith, h, e))
+    ]
+    refl
 
 -- the strips of the next reading, and what is left, are the strips so far and what was left
-onward : (was : List ℕ) (f : Field) (q : Reading) (k w : ℕ) (s : List ℕ) (ls : List (List Field)) → strip_of f ≡ k ∷ take w s → Stepped was f q → Writes ls (written q ++ drop w s) → Writes ls (was ++ (k ∷ s))
-onward was f q k w s ls e p n = record {
-  lawful = n.lawful;
-  strips = n.strips ∙ ap (λ t. t ++ drop w s) (p.strips ∙ ap (λ t. was ++ t) e) ∙ rejoined was k w s;
-}
+onward : (was : List ℕ) (k : ℕ) (s : List ℕ) (q : Reading) (ls : List (List Field)) → Step was k s q → Writes ls (written q ++ drop (width_of (kind_of k)) s) → Writes ls (was ++ (k ∷ s))
+onward was k s q ls p n =
+    let w = width_of (kind_of k) in
+    record {
+      lawful = n.lawful;
+      strips =
+          n.strips
+          ∙ ap (λ t. t ++ drop w s) p.strips
+          ∙ append_assoc was (k ∷ take w s) (drop w s)
+          ∙ ap (λ t. was ++ (k ∷ t)) (take-append-drop w s);
+    }
 
 end-sound : (r : Reading) (ls : List (List Field)) → Sound r → closed r ≡ Ok ls → Writes ls (written r ++ [])
 end-sound r ls g e =
@@ -159,31 +141,14 @@ sound [] (suc w) p r ls g e = end-sound r ls g e
 sound (k ∷ s) (suc w) p r ls g e = sound s w (p + 1) r ls g e
 sound (k ∷ s) zero p r ls g e =
     let c = followed (stepped (p + 1) r k s) (λ q. read_from (width_of (kind_of k)) (p + 1) q s) ls e in
-    let t = took (p + 1) r k s c.value c.first in
-    let n = step-sound (p + 1) r k t.field c.value g t.how in
-    onward (written r) t.field c.value k (width_of (kind_of k)) s ls (took-strip (p + 1) r k s c.value t) n
-    (sound s (width_of (kind_of k)) (p + 1) c.value ls n.sound c.second)
+    let n = step-sound (p + 1) k r s c.value g c.first in
+    onward (written r) k s c.value ls n (sound s (width_of (kind_of k)) (p + 1) c.value ls n.sound c.second)
 
 -- the first U begins the first layout
-first-sound : (k : ℕ) (f : Field) (q : Reading) → k ≡ 85 → Began 1 start k f q ⊎ Grew start k f q → Stepped [] f q
-first-sound k f q u (inl h) =
-    let none : [] ≡ h.layouts = same_ok h.shut in
-    subst (λ s. Stepped s f q) (ap strips_of (sym none)) (opened-sound 1 h.layouts f q (ap lawful_layouts (sym none)) h.next)
-first-sound k f q u (inr h) = absurd (h.other u)
-
-begun : (k : ℕ) (s : List ℕ) (ls : List (List Field)) → k ≡ 85 → read_from 0 0 start (k ∷ s) ≡ Ok ls → Writes ls (k ∷ s)
-begun k s ls u e =
-    let c = followed (stepped 1 start k s) (λ q. read_from (width_of (kind_of k)) 1 q s) ls e in
-    let t = took 1 start k s c.value c.first in
-    let n = first-sound k t.field c.value u t.how in
-    onward [] t.field c.value k (width_of (kind_of k)) s ls (took-strip 1 start k s c.value t) n
-    (sound s (width_of (kind_of k)) 1 c.value ls n.sound c.second)
-
 pub read-writes : (s : List ℕ) (ls : List (List Field)) → read s ≡ Ok ls → Writes ls s
-read-writes [] ls e = err-not-ok e
+read-writes [] ls e = cc
 read-writes (k ∷ s) ls e =
-    elim (eqb k 85) as (λ t. eqb k 85 ≡ t → cond t (read_from 0 0 start (k ∷ s)) (Err (at 3 1)) ≡ Ok ls → Writes ls (k ∷ s)) [
-      | true ↦ λ h g. begun k s ls (eqb-true k 85 h) g
-      | false ↦ λ h g. err-not-ok g
-    ]
-    refl e
+    let u : k ≡ 85 = grind (arith, nat_tests) in
+    let c = followed (stepped 1 start k s) (λ q. read_from (width_of (kind_of k)) 1 q s) ls (grind (arith, nat_tests)) in
+    let n = layout-step 1 k [] s c.value u refl (grind (arith, nat_tests, c.first)) in
+    onward [] k s c.value ls n (sound s (width_of (kind_of k)) 1 c.value ls n.sound c.second)

@@ -5,4 +5,4 @@ use Rattle.strips.specs.Layers.{layouts_of}
 use Rattle.strips.specs.Loads.{Reading}
 
 abbrev pub reading_of : Reader → Reading
-reading_of r = record { done = layouts_of r.done; fields = vec_items r.fields; from = r.from }
+reading_of r = record { done = layouts_of r.done; fields = vec_items r.open.fields; from = r.open.from }

@@ -1,5 +1,5 @@
 // One field of strips: a kind byte and the kind's body.
-ghost use Rattle.std.specs.Prelude.{◌≡◌, ◌+◌, ◌<◌, length, drop};
+ghost use Rattle.std.specs.Prelude.{◌≡◌, length};
 ghost use Rattle.basics.specs.declared.refusal.Layer as Layer;
 ghost use Rattle.strips.specs.Loads.{field_from};
 ghost use Rattle.strips.specs.Strips.{kind_of, body_width, number_in, pair_in, codes_in, field_in};
@@ -10,7 +10,7 @@ use basics::refusal::{Layer, Reason, Refusal};
 use layouts::field::Field;
 
 // The kinds of fields, without their figures.
-#[derive(Clone, Copy)]
+#[derive(Clone, Copy, Debug, PartialEq, Eq)]
 pub enum Kind {
     Record,
     Range,
@@ -28,7 +28,7 @@ pub enum Kind {
     AllOrNoLines,
 }
 
-// The kind that the letter names.
+// The kind that the letter names. By rule the letters are matched as `char` literals, not as bytes.
 pub(crate) fn kind_of(kind: u8) -> Option<Kind>
     ensures { result ≡ kind_of kind }
 {
@@ -64,44 +64,21 @@ pub(crate) fn body_width(kind: Kind) -> usize
     }
 }
 
-// The number that the digits show, if it lies in these bounds.
-fn number_in(low: u32, high: u32, part: &[u8]) -> Option<u32>
+// The number that the digits show, if it lies in these bounds, which prove each caller's cast.
+fn number_in(low: u64, high: u64, part: &[u8]) -> Option<u64>
     ensures { result ≡ number_in low high part.now }
 {
-    let n = decimal::value(part)?;
-    if n < u64::from(low) || n > u64::from(high) {
-        return None;
-    }
-    Some(n as u32)
-}
-
-// The same for bounds of one byte.
-fn small_in(low: u8, high: u8, part: &[u8]) -> Option<u8>
-    ensures { result ≡ number_in low high part.now }
-{
-    let n = number_in(u32::from(low), u32::from(high), part)?;
-    Some(n as u8)
-}
-
-// The width of a text or of blanks.
-fn width_in(part: &[u8]) -> Option<u16>
-    ensures { result ≡ number_in 1 999 part.now }
-{
-    let n = number_in(1, 999, part)?;
-    Some(n as u16)
+    decimal::value(part).filter(|n| (low..=high).contains(n))
 }
 
 // Two numbers of two digits, neither above the bound and the first not above the second.
-fn pair_in(high: u8, body: &[u8]) -> Option<(u8, u8)>
+fn pair_in(most: u8, body: &[u8]) -> Option<(u8, u8)>
     requires { length body.now ≡ 4 }
-    ensures { result ≡ pair_in high body.now }
+    ensures { result ≡ pair_in most body.now }
 {
-    let a = small_in(0, high, &body[0..2])?;
-    let b = small_in(0, high, &body[2..4])?;
-    if a > b {
-        return None;
-    }
-    Some((a, b))
+    let low = number_in(0, u64::from(most), &body[..2])? as u8;
+    let high = number_in(0, u64::from(most), &body[2..])? as u8;
+    (low <= high).then_some((low, high))
 }
 
 // Four text bytes.
@@ -109,10 +86,12 @@ fn codes_in(body: &[u8]) -> Option<Field>
     requires { length body.now ≡ 4 }
     ensures { result ≡ codes_in body.now }
 {
-    if first_forbidden(ByteClass::Text, body).is_some() {
-        return None;
+    match *body {
+        [a, b, c, d] if first_forbidden(ByteClass::Text, body).is_none() => {
+            Some(Field::OneOf(a, b, c, d))
+        }
+        _ => None,
     }
-    Some(Field::OneOf(body[0], body[1], body[2], body[3]))
 }
 
 // The field that the kind and its body write, if the body keeps to the kind's rule.
@@ -121,16 +100,16 @@ fn field_in(kind: Kind, body: &[u8]) -> Option<Field>
     ensures { result ≡ field_in kind body.now }
 {
     match kind {
-        Kind::Record => Some(Field::Record(number_in(0, 99_999, body)?)),
+        Kind::Record => Some(Field::Record(number_in(0, 99_999, body)? as u32)),
         Kind::Range => {
             let (low, high) = pair_in(99, body)?;
             Some(Field::Range(low, high))
         }
-        Kind::Number => Some(Field::Number(small_in(1, 19, body)?)),
-        Kind::Zeros => Some(Field::Zeros(small_in(1, 99, body)?)),
-        Kind::Text => Some(Field::Text(width_in(body)?)),
-        Kind::FilledText => Some(Field::FilledText(width_in(body)?)),
-        Kind::Blanks => Some(Field::Blanks(width_in(body)?)),
+        Kind::Number => Some(Field::Number(number_in(1, 19, body)? as u8)),
+        Kind::Zeros => Some(Field::Zeros(number_in(1, 99, body)? as u8)),
+        Kind::Text => Some(Field::Text(number_in(1, 999, body)? as u16)),
+        Kind::FilledText => Some(Field::FilledText(number_in(1, 999, body)? as u16)),
+        Kind::Blanks => Some(Field::Blanks(number_in(1, 999, body)? as u16)),
         Kind::Day => Some(Field::Day),
         Kind::DayOrZero => Some(Field::DayOrZero),
         Kind::Amount => Some(Field::Amount),
@@ -140,7 +119,7 @@ fn field_in(kind: Kind, body: &[u8]) -> Option<Field>
             let (low, high) = pair_in(60, body)?;
             Some(Field::Lines(low, high))
         }
-        Kind::AllOrNoLines => Some(Field::AllOrNoLines(small_in(1, 60, body)?)),
+        Kind::AllOrNoLines => Some(Field::AllOrNoLines(number_in(1, 60, body)? as u8)),
     }
 }
 
@@ -148,27 +127,15 @@ fn field_in(kind: Kind, body: &[u8]) -> Option<Field>
 pub(crate) fn refused(reason: Reason, byte: usize) -> Refusal
     ensures { result ≡ record { reason = reason; layer = Layer.Strips; line = 0; field = 0; byte = byte } }
 {
-    Refusal {
-        reason,
-        layer: Layer::Strips,
-        line: 0,
-        field: 0,
-        byte,
-    }
+    Refusal::new(reason, Layer::Strips).at_byte(byte)
 }
 
-// The field of the kind whose letter stands behind the place.
-pub(crate) fn field_at(kind: Kind, strips: &[u8], place: usize) -> Result<Field, Refusal>
-    requires { place < length strips.now }
-    ensures { result ≡ field_from (place + 1) kind (drop (place + 1) strips.now) }
+// The field of the kind whose letter stands at this byte, with the rest of the strips behind it.
+pub(crate) fn field_at(kind: Kind, byte: usize, rest: &[u8]) -> Result<Field, Refusal>
+    ensures { result ≡ field_from byte kind rest.now }
 {
-    let byte = place + 1;
-    let width = body_width(kind);
-    if strips.len() - byte < width {
-        return Err(refused(Reason::BodyCutShort, byte));
-    }
-    match field_in(kind, &strips[byte..byte + width]) {
-        Some(f) => Ok(f),
-        None => Err(refused(Reason::BodyBreaksItsRule, byte)),
-    }
+    let body = rest
+        .get(..body_width(kind))
+        .ok_or(refused(Reason::BodyCutShort, byte))?;
+    field_in(kind, body).ok_or(refused(Reason::BodyBreaksItsRule, byte))
 }

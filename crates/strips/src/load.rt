@@ -51,8 +51,7 @@ impl LoadedSet {
         ensures read_exactly_when_they_write_a_lawful_set { ReadExactly strips.now }
         ensures no_two_sets_have_the_same_strips { NoTwoAlike }
     {
-        let layouts = read_strips(strips, *self.layouts.allocator())?;
-        self.layouts = layouts;
+        self.layouts = read_strips(strips, *self.layouts.allocator())?;
         Ok(())
     }
 }

@@ -1,13 +1,15 @@
 // Reading strips into layouts, one field after another.
-ghost use Rattle.std.specs.Prelude.{◌≡◌, ◌+◌, ◌<◌, length, drop, Ok, slice_index};
+ghost use Rattle.std.specs.Prelude.{◌≡◌, not};
 ghost use Rattle.layouts.specs.Layouts.{record_of, digits_of, same_number, none_named};
+ghost use Rattle.strips.specs.declared.kind.Kind.TheVariants.{Record};
 ghost use Rattle.strips.specs.Layers.{lists_of, layouts_of};
-ghost use Rattle.strips.specs.Loads.{start, closed, opened, added, next_layout, next_field, stepped, width_of, read, Answers};
+ghost use Rattle.strips.specs.Loads.{and_then, closed, field_from, opened, next_layout, next_field, stepped, width_of, read, Answers};
 ghost use Rattle.strips.specs.Readers.{reading_of};
 ghost use Rattle.strips.specs.Strips.{kind_of};
 
 use crate::kind::{Kind, body_width, field_at, kind_of, refused};
 use crate::load::LoadError;
+use crate::open_layout::OpenLayout;
 use basics::refusal::Reason;
 use lawful::layout::is_lawful;
 use layouts::field::Field;
@@ -16,151 +18,91 @@ use std::alloc::Global;
 // How many layouts a set has at most.
 const MOST_LAYOUTS: usize = 8;
 
-// The digits of a U field.
-fn record_of(f: Field) -> Option<u32>
-    ensures { result ≡ record_of f }
+// Whether the layout begins with the digits of this U field.
+fn has_digits_of(field: Field, layout: &[Field]) -> bool
+    ensures { result ≡ same_number (record_of field) (digits_of layout.now) }
 {
-    match f {
-        Field::Record(d) => Some(d),
-        _ => None,
-    }
-}
-
-// The digits of a layout.
-fn digits_of(layout: &[Field]) -> Option<u32>
-    ensures { result ≡ digits_of layout.now }
-{
-    if layout.is_empty() {
-        return None;
-    }
-    record_of(layout[0])
-}
-
-// Whether both are digits, and the same.
-fn is_same(a: Option<u32>, b: Option<u32>) -> bool
-    ensures { result ≡ same_number a b }
-{
-    match (a, b) {
-        (Some(x), Some(y)) => x == y,
+    match (field, layout) {
+        (Field::Record(new), [Field::Record(old), ..]) => new == *old,
         _ => false,
     }
 }
 
-// Whether no layout has these digits.
-fn is_new(digits: Option<u32>, layouts: &[Vec<Field>]) -> bool
-    ensures { result ≡ none_named digits (lists_of layouts.now) }
+// Whether one of the layouts has the digits of this U field.
+fn is_used(field: Field, layouts: &[Vec<Field>]) -> bool
+    ensures { result ≡ not (none_named (record_of field) (lists_of layouts.now)) }
 {
-    for layout in layouts {
-        if is_same(digits, digits_of(layout)) {
-            return false;
-        }
-    }
-    true
+    layouts.iter().any(|layout| has_digits_of(field, layout))
 }
 
-// How far reading has come: the finished layouts, the fields of the open one, which has none before
-// the first U, and the byte of its U.
+// How far reading has come: the finished layouts, and the open one. Each step is handed the letter that
+// it reads, its byte and the rest behind it. They are no part of the reader, which keeps none of them.
 #[derive(Drop)]
 pub struct Reader {
     done: Vec<Vec<Field>>,
-    fields: Vec<Field>,
-    from: usize,
+    open: OpenLayout,
 }
 
 impl Reader {
-    // Nothing is read.
-    pub(crate) fn new(heap: Global) -> Reader
-        ensures { reading_of result ≡ start }
+    // These layouts are finished, and the next is open: its U stands at this byte.
+    fn begin(
+        done: Vec<Vec<Field>>,
+        byte: usize,
+        rest: &[u8],
+        heap: Global,
+    ) -> Result<Reader, LoadError>
+        ensures { Answers result reading_of (and_then (field_from byte Record rest.now) (opened byte (layouts_of done))) }
     {
-        Reader {
-            done: Vec::new(heap),
-            fields: Vec::new(heap),
-            from: 0,
+        let field = field_at(Kind::Record, byte, rest)?;
+        if done.len() >= MOST_LAYOUTS {
+            return Err(refused(Reason::TooManyLayouts, byte).into());
         }
+        if is_used(field, &done) {
+            return Err(refused(Reason::DigitsUsedBefore, byte).into());
+        }
+        let open = OpenLayout::new(field, byte, heap)?;
+        Ok(Reader { done, open })
     }
 
     // The layouts, with the open one finished.
-    pub(crate) fn close(self) -> Result<Vec<Vec<Field>>, LoadError>
+    fn close(self) -> Result<Vec<Vec<Field>>, LoadError>
         ensures { Answers result layouts_of (closed (reading_of self)) }
     {
-        let Reader {
-            mut done,
-            fields,
-            from,
-        } = self;
-        if fields.is_empty() {
-            return Ok(done);
+        let Reader { mut done, open } = self;
+        if !is_lawful(&open.fields) {
+            return Err(refused(Reason::UnlawfulLayout, open.from).into());
         }
-        if !is_lawful(&fields) {
-            return Err(LoadError::Refused(refused(Reason::UnlawfulLayout, from)));
-        }
-        done.push(fields)?;
+        done.push(open.fields)?;
         Ok(done)
     }
 
-    // The next layout is open: its U field stands at this byte.
-    fn open(
-        done: Vec<Vec<Field>>,
-        field: Field,
-        byte: usize,
-        heap: Global,
-    ) -> Result<Reader, LoadError>
-        ensures { Answers result reading_of (opened byte (layouts_of done) field) }
+    // The U at this byte closes the open layout and begins the next.
+    fn next_layout(self, byte: usize, rest: &[u8], heap: Global) -> Result<Reader, LoadError>
+        ensures { Answers result reading_of (next_layout byte (reading_of self) rest.now) }
     {
-        if done.len() >= MOST_LAYOUTS {
-            return Err(LoadError::Refused(refused(Reason::TooManyLayouts, byte)));
+        Reader::begin(self.close()?, byte, rest, heap)
+    }
+
+    // The letter at this byte begins one field more of the open layout.
+    fn next_field(self, letter: u8, byte: usize, rest: &[u8]) -> Result<Reader, LoadError>
+        ensures { Answers result reading_of (next_field byte (reading_of self) letter rest.now) }
+    {
+        let kind = kind_of(letter).ok_or(refused(Reason::UnknownKind, byte))?;
+        let field = field_at(kind, byte, rest)?;
+        let Reader { done, open } = self;
+        let open = open.add(field)?;
+        Ok(Reader { done, open })
+    }
+
+    // The letter at this byte is read, and its body at the front of the rest.
+    fn step(self, letter: u8, byte: usize, rest: &[u8], heap: Global) -> Result<Reader, LoadError>
+        ensures { Answers result reading_of (stepped byte (reading_of self) letter rest.now) }
+    {
+        if letter == b'U' {
+            self.next_layout(byte, rest, heap)
+        } else {
+            self.next_field(letter, byte, rest)
         }
-        if !is_new(record_of(field), &done) {
-            return Err(LoadError::Refused(refused(Reason::DigitsUsedBefore, byte)));
-        }
-        let mut fields = Vec::new(heap);
-        fields.push(field)?;
-        Ok(Reader {
-            done,
-            fields,
-            from: byte,
-        })
-    }
-
-    // The open layout has one field more.
-    fn add(mut self, field: Field) -> Result<Reader, LoadError>
-        ensures { Answers result reading_of (Ok (added (reading_of self) field)) }
-    {
-        self.fields.push(field)?;
-        Ok(self)
-    }
-
-    // The U behind the place closes the open layout and begins the next.
-    fn next_layout(self, strips: &[u8], place: usize, heap: Global) -> Result<Reader, LoadError>
-        requires { place < length strips.now }
-        ensures { Answers result reading_of (next_layout (place + 1) (reading_of self) (drop (place + 1) strips.now)) }
-    {
-        let done = self.close()?;
-        let field = field_at(Kind::Record, strips, place)?;
-        Reader::open(done, field, place + 1, heap)
-    }
-
-    // The letter behind the place begins one field more.
-    fn next_field(self, strips: &[u8], place: usize) -> Result<Reader, LoadError>
-        requires { place < length strips.now }
-        ensures { Answers result reading_of (next_field (place + 1) (reading_of self) (slice_index strips.now place) (drop (place + 1) strips.now)) }
-    {
-        let Some(kind) = kind_of(strips[place]) else {
-            return Err(LoadError::Refused(refused(Reason::UnknownKind, place + 1)));
-        };
-        let field = field_at(kind, strips, place)?;
-        self.add(field)
-    }
-
-    // What stands behind the place is read too, as far as one field.
-    pub(crate) fn step(self, strips: &[u8], place: usize, heap: Global) -> Result<Reader, LoadError>
-        requires { place < length strips.now }
-        ensures { Answers result reading_of (stepped (place + 1) (reading_of self) (slice_index strips.now place) (drop (place + 1) strips.now)) }
-    {
-        if strips[place] == b'U' {
-            return self.next_layout(strips, place, heap);
-        }
-        self.next_field(strips, place)
     }
 }
 
@@ -168,27 +110,24 @@ impl Reader {
 fn width_after(letter: u8) -> usize
     ensures { result ≡ width_of (kind_of letter) }
 {
-    match kind_of(letter) {
-        Some(kind) => body_width(kind),
-        None => 0,
-    }
+    kind_of(letter).map_or(0, body_width)
 }
 
 // The layouts that the strips write, or the first refusal.
 pub(crate) fn read_strips(strips: &[u8], heap: Global) -> Result<Vec<Vec<Field>>, LoadError>
     ensures { Answers result layouts_of (read strips.now) }
 {
-    if strips.is_empty() {
-        return Err(LoadError::Refused(refused(Reason::NoStrips, 0)));
+    let (first, behind) = strips.split_first().ok_or(refused(Reason::NoStrips, 0))?;
+    if *first != b'U' {
+        return Err(refused(Reason::FirstKindNotRecord, 1).into());
     }
-    if strips[0] != b'U' {
-        return Err(LoadError::Refused(refused(Reason::FirstKindNotRecord, 1)));
-    }
-    let mut reader = Reader::new(heap);
-    let mut place = 0;
-    while place < strips.len() {
-        reader = reader.step(strips, place, heap)?;
-        place += 1 + width_after(strips[place]);
+    let mut reader = Reader::begin(Vec::new(heap), 1, behind, heap)?;
+    let mut rest = &behind[body_width(Kind::Record)..];
+    // A loop and no chain: each field is as wide as its letter says.
+    while let Some((letter, behind)) = rest.split_first() {
+        let byte = strips.len() - behind.len();
+        reader = reader.step(*letter, byte, behind, heap)?;
+        rest = &behind[width_after(*letter)..];
     }
     reader.close()
 }

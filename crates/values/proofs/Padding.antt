@@ -12,13 +12,13 @@ trim-none : (k : ℕ) → trim (blanks k) ≡ []
 trim-none zero = refl
 trim-none (suc k) = ap (front 32) (trim-none k)
 
-trim-blanks : (t : List ℕ) (k : ℕ) → trim (t ++ blanks k) ≡ trim t
-trim-blanks [] k = trim-none k
-trim-blanks (x ∷ xs) k = ap (front x) (trim-blanks xs k)
+trim_blanks : (t : List ℕ) (k : ℕ) → trim (t ++ blanks k) ≡ trim t
+trim_blanks [] k = trim-none k
+trim_blanks (x ∷ xs) k = ap (front x) (trim_blanks xs k)
 
 -- a text that was filled up is trimmed back
 pub trim-back : (w : ℕ) (t : List ℕ) → trim t ≡ t → trim (padded w t) ≡ t
-trim-back w t h = trim-blanks t (w - length t) ∙ h
+trim-back w t h = trim_blanks t (w - length t) ∙ h
 
 pad-more : (b : ℕ) (t bs : List ℕ) → t ++ blanks (length bs - length t) ≡ bs → front b t ++ blanks (suc (length bs) - length (front b t)) ≡ b ∷ bs
 pad-more b [] bs h =
@@ -47,7 +47,7 @@ pub trim-take : (s : List ℕ) → take (length (trim s)) s ≡ trim s
 trim-take s = ap (take (length (trim s))) (sym (pad-back s)) ∙ take_at (trim s) (blanks (length s - length (trim s))) _ refl
 
 pub trim-twice : (s : List ℕ) → trim (trim s) ≡ trim s
-trim-twice s = sym (trim-blanks (trim s) (length s - length (trim s))) ∙ ap trim (pad-back s)
+trim-twice s = sym (trim_blanks (trim s) (length s - length (trim s))) ∙ ap trim (pad-back s)
 
 pub length-padded : (w : ℕ) (t : List ℕ) → length t ≤ w → length (padded w t) ≡ w
 length-padded w t h = omega (arith, length-append t (blanks (w - length t)), length-replicate {A = ℕ} (w - length t) 32)

@@ -1,12 +1,9 @@
 // How a field stands in a line, as the table of kinds has it.
-ghost use Rattle.std.specs.Prelude.{◌≡◌};
-ghost use Rattle.layouts.specs.Kinds.{shape};
-ghost use Rattle.values.specs.Forms.{shape_of};
-
 use basics::bytes::ByteClass;
 use layouts::field::Field;
 use lines::rules::{NumberRule, TextRule};
 
+// An enum, and no closure: contracts name the forms, and several calls match on them.
 #[derive(Clone, Copy)]
 pub enum Form {
     // UBT and these five digits.
@@ -24,23 +21,33 @@ pub enum Form {
 }
 
 // The form of a field.
-pub fn form_of(f: Field) -> Form
-    ensures { shape_of result ≡ shape f }
-{
-    match f {
-        Field::Record(d) => Form::Name(d),
-        Field::Range(low, high) => Form::Figures(2, NumberRule::Between(low, high)),
-        Field::Number(w) => Form::Figures(w, NumberRule::Any),
-        Field::Zeros(w) => Form::Fill(b'0', u16::from(w)),
-        Field::Text(w) => Form::Letters(w, ByteClass::Text, TextRule::Any),
-        Field::FilledText(w) => Form::Letters(w, ByteClass::Text, TextRule::Filled),
-        Field::Blanks(w) => Form::Fill(b' ', w),
-        Field::Day => Form::Figures(8, NumberRule::Day),
-        Field::DayOrZero => Form::Figures(8, NumberRule::DayOrZero),
-        Field::Amount => Form::Figures(15, NumberRule::Amount),
-        Field::Currency => Form::Letters(3, ByteClass::Capital, TextRule::Any),
-        Field::OneOf(a, b, c, d) => Form::Code(a, b, c, d),
-        Field::Lines(low, high) => Form::Block(high, NumberRule::Between(low, high), TextRule::Any),
-        Field::AllOrNoLines(n) => Form::Block(n, NumberRule::NoneOr(n), TextRule::Filled),
+impl From<Field> for Form {
+    ghost use Rattle.std.specs.Prelude.{◌≡◌};
+    ghost use Rattle.layouts.specs.Kinds.{shape};
+    ghost use Rattle.values.specs.Forms.{shape_of};
+
+    ghost from_gives = { λ f form. shape_of form ≡ shape f };
+
+    fn from(f: Field) -> Form {
+        match f {
+            Field::Record(d) => Form::Name(d),
+            Field::Range(low, high) => Form::Figures(2, NumberRule::Between(low, high)),
+            Field::Number(w) => Form::Figures(w, NumberRule::Any),
+            Field::Zeros(w) => Form::Fill(b'0', u16::from(w)),
+            Field::Text(w) => Form::Letters(w, ByteClass::Text, TextRule::Any),
+            Field::FilledText(w) => Form::Letters(w, ByteClass::Text, TextRule::Filled),
+            Field::Blanks(w) => Form::Fill(b' ', w),
+            Field::Day => Form::Figures(8, NumberRule::Day),
+            Field::DayOrZero => Form::Figures(8, NumberRule::DayOrZero),
+            Field::Amount => Form::Figures(15, NumberRule::Amount),
+            Field::Currency => Form::Letters(3, ByteClass::Capital, TextRule::Any),
+            Field::OneOf(a, b, c, d) => Form::Code(a, b, c, d),
+            Field::Lines(low, high) => Form::Block(
+                high,
+                NumberRule::Between(low, high),
+                TextRule::Any,
+            ),
+            Field::AllOrNoLines(n) => Form::Block(n, NumberRule::NoneOr(n), TextRule::Filled),
+        }
     }
 }

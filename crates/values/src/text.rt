@@ -8,10 +8,6 @@ use crate::row::ValueRow;
 pub fn text_of(bytes: &[u8], row: ValueRow) -> Option<&[u8]>
     ensures { MatchOption result (inside bytes.now row ≡ false) (λ t. (inside bytes.now row ≡ true) × (t.now ≡ text_at bytes.now row)) }
 {
-    if row.place == 0 || row.length > bytes.len() || row.place - 1 > bytes.len() - row.length {
-        return None;
-    }
-    let from = row.place - 1;
-    let end = from + row.length;
-    Some(&bytes[from..end])
+    let from = row.place.checked_sub(1)?;
+    bytes.get(from..)?.get(..row.length)
 }

@@ -51,11 +51,6 @@ module _ (w : ℕ) (c : ℕ → Bool) (rule : TextRule) (t : List ℕ) where
       stopped (leb (length t) w) (eqb (length (trim t)) (length t)) (all c (padded w t)) (text_test rule (padded w t))
       (all_append c t (replicate (w - length t) 32) ∙ and_left (all c t) (all c (replicate (w - length t) 32)) h)
 
-  pub no-blanks : all c (replicate (w - length t) 32) ≡ false → fitting w c (text_test rule) t ≡ false
-  no-blanks h =
-      stopped (leb (length t) w) (eqb (length (trim t)) (length t)) (all c (padded w t)) (text_test rule (padded w t))
-      (all_append c t (replicate (w - length t) 32) ∙ and_right (all c t) (all c (replicate (w - length t) 32)) h)
-
   past : (a b d e : Bool) → a ≡ true → b ≡ true → d ≡ true → (a && (b && (d && e))) ≡ e
   past a b d e x y z = ap (λ v. v && (b && (d && e))) x ∙ ap (λ v. v && (d && e)) y ∙ ap (λ v. v && e) z
 

@@ -1,26 +1,8 @@
 -- Bytes put into memory.
-use Rattle.std.proofs.Common.{◌≡◌, ℕ, ◌+◌, ◌-◌, ◌≤◌, List, [], ◌∷◌, ◌++◌, length, take, drop, set, replicate, sym, refl, ap, ◌∙◌, append_assoc, append-nil, arith, length-append}
+use Rattle.std.proofs.Common.{◌≡◌, ℕ, ◌+◌, ◌-◌, ◌≤◌, List, [], ◌++◌, length, take, drop, sym, ap, ◌∙◌, append_assoc, append-nil, arith, length-append}
 use borrow.Rule.Slice.PartMut.{put_mid}
-use Rattle.std.proofs.lemmas.List.{take_at, take_all, drop_at, drop_all, drop-drop, length-take, length-drop, take_rest}
-use Rattle.values.specs.Writing.{padded}
+use Rattle.std.proofs.lemmas.List.{take_at, drop_at, drop_all, drop-drop, length-take, length-drop, take_rest}
 use Rattle.writing.specs.Sizes.{in_front}
-
--- a text copied to the front, and blanks behind it
-pub text-laid : (t rest last f : List ℕ) (w : ℕ) → last ≡ t → length rest ≡ w - length t → f ≡ replicate (length (take (length (last ++ rest) - length t) (drop (length t) (last ++ rest)))) 32 → put_mid (length t) (length (last ++ rest) - length t) (last ++ rest) f ≡ padded w t
-text-laid t rest last f w e h g =
-    let k : length (last ++ rest) - length t ≡ length rest = omega (arith, length-append last rest, ap length e) in
-    let a : take (length t) (last ++ rest) ≡ t = take_at last rest (length t) (ap length e) ∙ e in
-    let b : drop (length t) (last ++ rest) ≡ rest = drop_at last rest (length t) (ap length e) in
-    let d : drop (length rest) rest ≡ [] = drop_all (length rest) rest (omega arith) in
-    let m : take (length rest) rest ≡ rest = take_all (length rest) rest (omega arith) in
-    let n : f ++ [] ≡ f = append-nil f in
-    cc
-
--- one byte
-pub only : (out : List ℕ) (n : ℕ) → length out ≡ 1 → set out 0 n ≡ n ∷ []
-only [] n h = absurd (omega arith)
-only (x ∷ []) n h = refl
-only (x ∷ y ∷ ys) n h = absurd (omega arith)
 
 -- a part written behind the first p bytes
 module _ (p : ℕ) (out b : List ℕ) (l : p + length b ≤ length out) where

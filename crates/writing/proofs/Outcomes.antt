@@ -1,5 +1,5 @@
 -- What writing answers and leaves, and what that says of records.
-use Rattle.std.proofs.Common.{◌≡◌, ℕ, ◌+◌, ◌-◌, ◌<◌, ◌≤◌, Bool, true, false, cond, ltb, List, [], ◌∷◌, length, take, drop, IfOk, Some, None, Ok, Err, Result, sym, refl, ap, ◌∙◌, subst, arith}
+use Rattle.std.proofs.Common.{◌≡◌, ℕ, ◌+◌, ◌-◌, ◌<◌, ◌≤◌, Bool, true, false, cond, ltb, List, [], ◌∷◌, length, take, drop, IfOk, Some, Ok, Err, Result, sym, refl, ap, ◌∙◌, subst, arith}
 use Rattle.std.proofs.lemmas.List.{take_at, drop-drop, length-drop, nil_from_length}
 use Rattle.std.proofs.lemmas.Bool.{lt-ltb, le-ltb}
 use Rattle.basics.specs.declared.refusal.Refusal.{Refusal}
@@ -9,7 +9,7 @@ use Rattle.layouts.specs.Kinds.{shape}
 use Rattle.layouts.specs.Layouts.{layout_at, is_lawful}
 use Rattle.lines.specs.Judging.{found}
 use Rattle.lines.specs.Belongs.{Belongs}
-use Rattle.lines.proofs.Steps.{absurd-err, same_ok, same-err}
+use Rattle.lines.proofs.Steps.{absurd-err, same_ok}
 use Rattle.values.specs.declared.row.ValueRow.{ValueRow}
 use Rattle.values.specs.Records.{ShowsRecord}
 use Rattle.values.specs.Writing.{Step, done, refused, placed, field_step, field_steps, finished, line_by, line_for}
@@ -54,35 +54,14 @@ checked l bytes rs z e =
     let zr = d.1.1.1.1 in
     record { wrote = d.0; rest = r; is = d.1.1.0; bytes' = d.1.1.1.0; rows = omega arith }
 
-pub stopped : (n : ℕ) (x : Step Refusal) (e : Refusal) → Err e ≡ sized n x → x ≡ refused e
-stopped n (done b r) e h = absurd-err h
-stopped n (refused x) e h = ap refused (sym (same-err h))
-
 -- the line, refused
 module _ (ls : List (List Field)) (n : ℕ) (bytes : List ℕ) (rs : List ValueRow) where
-  pub line-unknown : found ls 1 n ≡ None → line_for ls n bytes rs ≡ Err (refusal 41 2 0 0 0)
-  line-unknown e = ap (λ o. line_by ls o bytes rs) e
-
   module _ (j : ℕ) (f : found ls 1 n ≡ Some j) where
-    pub line_refused : (e : Refusal) → field_steps 1 (layout_at ls j) bytes rs ≡ refused e → line_for ls n bytes rs ≡ Err e
-    line_refused e h = ap (λ o. line_by ls o bytes rs) f ∙ ap finished h
-
-    some_left : (b : List ℕ) (rest : List ValueRow) → 0 < length rest → finished (done b rest) ≡ Err (refusal 44 2 0 0 0)
-    some_left b [] h = absurd (omega arith)
-    some_left b (r ∷ rest) h = refl
-
-    pub line-left : (z : Size) → Checked (layout_at ls j) bytes rs z → z.rows < length rs → line_for ls n bytes rs ≡ Err (refusal 44 2 0 0 0)
-    line-left z c l = let r = c.rows in ap (λ o. line_by ls o bytes rs) f ∙ ap finished c.is ∙ some_left c.wrote c.rest (omega arith)
-
     pub line-whole : (z : Size) (c : Checked (layout_at ls j) bytes rs z) → length rs ≤ z.rows → line_for ls n bytes rs ≡ Ok c.wrote
     line-whole z c l =
         let r = c.rows in
         let none : c.rest ≡ [] = nil_from_length c.rest (omega arith) in
         ap (λ o. line_by ls o bytes rs) f ∙ ap finished (c.is ∙ ap (done c.wrote) none)
-
--- the answer and the memory of a line that is computed
-pub says-refused : (old : List ℕ) (r : Result (List ℕ) Refusal) (e : Refusal) → r ≡ Err e → (Err e ≡ length_of (length old) r) × (old ≡ memory_after old r)
-says-refused old r e h = (sym (ap (length_of (length old)) h), sym (ap (memory_after old) h))
 
 pub says-long : (old : List ℕ) (r : Result (List ℕ) Refusal) (s : List ℕ) → r ≡ Ok s → length old < length s → (Err (refusal 45 2 0 0 0) ≡ length_of (length old) r) × (old ≡ memory_after old r)
 says-long old r s h l =

@@ -1,5 +1,5 @@
 -- Steps that are known to end well, written one after another.
-use Rattle.std.proofs.Common.{◌≡◌, ℕ, suc, ◌+◌, ◌-◌, ◌*◌, ◌^◌, ◌<◌, ◌≤◌, Bool, true, ltb, List, [], ◌++◌, length, get_or, take, drop, Some, None, sym, refl, ap, ◌∙◌, subst, append-nil, arith, length-append, take-append-drop}
+use Rattle.std.proofs.Common.{◌≡◌, ℕ, suc, ◌+◌, ◌-◌, ◌*◌, ◌^◌, ◌<◌, ◌≤◌, Bool, true, ltb, List, [], ◌∷◌, ◌++◌, length, get_or, take, drop, sym, refl, ap, ◌∙◌, subst, append-nil, arith, length-append, take-append-drop}
 use borrow.Author.Tests.{clash}
 use borrow.Rule.Slice.PartMut.{put_mid}
 use Rattle.std.proofs.lemmas.List.{drop-drop, drop_more, length-take, length-drop}
@@ -7,14 +7,12 @@ use Rattle.std.proofs.lemmas.Bool.{and_parts, ltb-true}
 use Rattle.layouts.specs.declared.field.Field.{Field}
 use Rattle.basics.specs.Decimals.{digits}
 use Rattle.layouts.specs.Kinds.{Part, Shape, shape, count, line, width}
-use Rattle.layouts.specs.Layouts.{place}
-use Rattle.layouts.proofs.Places.{drop-at-place, drop-at-none}
 use Rattle.values.specs.declared.row.ValueRow.{ValueRow}
 use Rattle.values.specs.Writing.{suits, written, Step, done, refused, before, chain, row_step, line_steps, first_number, field_step, placed, field_steps}
 use Rattle.writing.specs.declared.size.Size.{Size}
 use Rattle.writing.specs.Sizes.{is_done, bytes_of, size_of, in_front}
 use Rattle.values.proofs.FieldLaws.{chained, placed-done}
-use Rattle.writing.proofs.StepLaws.{before-none, before-before, row_done, lines-tail, field-tail, tail-size}
+use Rattle.writing.proofs.StepLaws.{before-before, row_done, lines-tail, field-tail, tail-size}
 use Rattle.writing.proofs.SizeLaws.{first-is}
 use Rattle.writing.proofs.Memory.{put-exact, put_rest, front-then, behind-then}
 
@@ -53,9 +51,6 @@ pub record Sofar {E : Type 0} (whole : Step E) (old out : List ℕ) (p : ℕ) (l
   pub same : length out ≡ length old
   pub front : whole ≡ before (take p out) left
   pub behind : drop p out ≡ drop p old
-
-pub sofar-none : {E : Type 0} (whole : Step E) (old : List ℕ) → Sofar whole old old 0 whole
-sofar-none whole old = record { within = omega arith; same = refl; front = sym (before-none whole); behind = refl }
 
 pub sofar-more : {E : Type 0} (whole : Step E) (old out new : List ℕ) (p : ℕ) (x : Step E) (k : List ValueRow → Step E) (n : Next whole (take p out) x k) → Sofar whole old out p (chain x k) → p + length n.wrote ≤ length out → new ≡ (take p out ++ n.wrote) ++ drop (p + length n.wrote) out → Sofar whole old new (p + length n.wrote) (k n.rest)
 sofar-more whole old out new p x k n s l e =
@@ -121,32 +116,10 @@ module _ (ok : List ℕ → Bool) (n : ℕ) (bytes : List ℕ) (rs : List ValueR
       let z : n - k ≡ 0 = omega arith in
       sofar-end (line_steps ok n bytes rs) old out (35 * k) (drop k rs) (subst (λ x. Sofar (line_steps ok n bytes rs) old out (35 * k) (line_steps ok x bytes (drop k rs))) z s)
 
-pub lines-first : (ok : List ℕ → Bool) (n : ℕ) (bytes : List ℕ) (rs : List ValueRow) (old : List ℕ) → LinesSofar ok n bytes rs old old 0
-lines-first ok n bytes rs old =
-    let z : n ≡ n - 0 = omega arith in
-    subst (λ x. Sofar (line_steps ok n bytes rs) old old 0 (line_steps ok x bytes rs)) z (sofar-none (line_steps ok n bytes rs) old)
-
 -- one row in front of the memory
 module _ (q : Part) (bytes : List ℕ) (rs : List ValueRow) (h : is_done (row_step q bytes rs) ≡ true) where
-  pub row_ends : (d : ValueRow) → (0 < length rs) × ((suits q bytes (get_or rs 0 d) ≡ true) × (bytes_of (row_step q bytes rs) ≡ written q bytes (get_or rs 0 d)))
-  row_ends d =
-      let x = ends (row_step q bytes rs) h in
-      let r = row_done q bytes rs x.wrote x.rest x.is in
-      (r.some, (r.suited d, ap bytes_of x.is ∙ sym (r.wrote d)))
-
   pub row-wide : length (bytes_of (row_step q bytes rs)) ≡ width q
   row-wide = let x = ends (row_step q bytes rs) h in let r = row_done q bytes rs x.wrote x.rest x.is in ap (λ y. length (bytes_of y)) x.is ∙ r.wide
-
-  pub row-size : (n : ℕ) → n ≡ width q → record { bytes = n; rows = 1 } ≡ size_of (length rs) (row_step q bytes rs)
-  row-size n e =
-      let x = ends (row_step q bytes rs) h in
-      let r = row_done q bytes rs x.wrote x.rest x.is in
-      let some = r.some in
-      let t = ap length r.tail ∙ length-drop 1 rs in
-      let wide = r.wide in
-      let a : n ≡ length x.wrote = omega arith in
-      let b : 1 ≡ length rs - length x.rest = omega arith in
-      ap (λ y. record { bytes = y; rows = 1 }) a ∙ ap (λ y. record { bytes = length x.wrote; rows = y }) b ∙ sym (ap (size_of (length rs)) x.is)
 
 -- a block: its count, and then its lines
 pub record BlockEnds (counts : ℕ → Bool) (ok : List ℕ → Bool) (bytes : List ℕ) (rs us : List ValueRow) (n : ℕ) : Type 0 where
@@ -185,26 +158,22 @@ block-ends counts ok bytes rs us d u h =
     }
 
 -- one field more
-module _ (l : List Field) (bytes : List ℕ) (rs : List ValueRow) (old out : List ℕ) (i u p : ℕ) where
+module _ (l : List Field) (bytes : List ℕ) (rs : List ValueRow) (old out : List ℕ) (i u p : ℕ) (left : List Field) where
   abbrev pub FieldsSofar : Type 0
-  FieldsSofar = Sofar (field_steps 1 l bytes rs) old out p (field_steps i (drop (i - 1) l) bytes (drop u rs))
+  FieldsSofar = Sofar (field_steps 1 l bytes rs) old out p (field_steps i left bytes (drop u rs))
 
-  module _ (f : Field) (x : Shape) (us : List ValueRow) (e : place l i ≡ Some f) (is : x ≡ shape f) (v : us ≡ drop u rs) (h : is_done (field_steps 1 l bytes rs) ≡ true) (s : FieldsSofar) where
-    at_field : Sofar (field_steps 1 l bytes rs) old out p (chain (placed i (field_step x bytes us)) (field_steps (i + 1) (drop i l) bytes))
+  module _ (f : Field) (others : List Field) (x : Shape) (us : List ValueRow) (e : left ≡ f ∷ others) (is : x ≡ shape f) (v : us ≡ drop u rs) (h : is_done (field_steps 1 l bytes rs) ≡ true) (s : FieldsSofar) where
+    at_field : Sofar (field_steps 1 l bytes rs) old out p (chain (placed i (field_step x bytes us)) (field_steps (i + 1) others bytes))
     at_field =
-        let a = subst (λ fs. Sofar (field_steps 1 l bytes rs) old out p (field_steps i fs bytes (drop u rs))) (drop-at-place l i f e) s in
-        let b = subst (λ y. Sofar (field_steps 1 l bytes rs) old out p (chain (placed i (field_step y bytes (drop u rs))) (field_steps (i + 1) (drop i l) bytes))) (sym is) a in
-        subst (λ y. Sofar (field_steps 1 l bytes rs) old out p (chain (placed i (field_step x bytes y)) (field_steps (i + 1) (drop i l) bytes))) (sym v) b
+        let a = subst (λ fs. Sofar (field_steps 1 l bytes rs) old out p (field_steps i fs bytes (drop u rs))) e s in
+        let b = subst (λ y. Sofar (field_steps 1 l bytes rs) old out p (chain (placed i (field_step y bytes (drop u rs))) (field_steps (i + 1) others bytes))) (sym is) a in
+        subst (λ y. Sofar (field_steps 1 l bytes rs) old out p (chain (placed i (field_step x bytes y)) (field_steps (i + 1) others bytes))) (sym v) b
 
-    the_field : Next (field_steps 1 l bytes rs) (take p out) (placed i (field_step x bytes us)) (field_steps (i + 1) (drop i l) bytes)
-    the_field = next (field_steps 1 l bytes rs) (take p out) (placed i (field_step x bytes us)) (field_steps (i + 1) (drop i l) bytes) h at_field.front
+    the_field : Next (field_steps 1 l bytes rs) (take p out) (placed i (field_step x bytes us)) (field_steps (i + 1) others bytes)
+    the_field = next (field_steps 1 l bytes rs) (take p out) (placed i (field_step x bytes us)) (field_steps (i + 1) others bytes) h at_field.front
 
     its-step : field_step x bytes us ≡ done the_field.wrote the_field.rest
     its-step = placed-done i (field_step x bytes us) the_field.wrote the_field.rest the_field.is
-
-    -- the field's rows suit, and there is room
-    pub field-suits : is_done (field_step x bytes us) ≡ true
-    field-suits = ap is_done its-step
 
     pub field_room : length (bytes_of (field_steps 1 l bytes rs)) ≤ length old → p + length (bytes_of (field_step x bytes us)) ≤ length out
     field_room r =
@@ -215,7 +184,7 @@ module _ (l : List Field) (bytes : List ℕ) (rs : List ValueRow) (old out : Lis
         let t = length-take p out in
         omega arith
 
-    pub field_put : (new last : List ℕ) (z : Size) → length (bytes_of (field_steps 1 l bytes rs)) ≤ length old → u ≤ length rs → last ≡ in_front (bytes_of (field_step x bytes us)) (take (length out - p) (drop p out)) → z ≡ size_of (length us) (field_step x bytes us) → new ≡ put_mid p (length out - p) out last → (p + z.bytes ≤ length old) × (u + z.rows ≤ length rs) × Sofar (field_steps 1 l bytes rs) old new (p + z.bytes) (field_steps (i + 1) (drop (i + 1 - 1) l) bytes (drop (u + z.rows) rs))
+    pub field_put : (new last : List ℕ) (z : Size) → length (bytes_of (field_steps 1 l bytes rs)) ≤ length old → u ≤ length rs → last ≡ in_front (bytes_of (field_step x bytes us)) (take (length out - p) (drop p out)) → z ≡ size_of (length us) (field_step x bytes us) → new ≡ put_mid p (length out - p) out last → (p + z.bytes ≤ length old) × (u + z.rows ≤ length rs) × Sofar (field_steps 1 l bytes rs) old new (p + z.bytes) (field_steps (i + 1) others bytes (drop (u + z.rows) rs))
     field_put new last z r ur put size made =
         let n = the_field in
         let st = its-step in
@@ -228,17 +197,12 @@ module _ (l : List Field) (bytes : List ℕ) (rs : List ValueRow) (old out : Lis
         let tk = length-take p out in
         let fits : p + length n.wrote ≤ length out = omega arith in
         let as' : last ≡ in_front n.wrote (take (length out - p) (drop p out)) = put ∙ ap (λ y. in_front (bytes_of y) (take (length out - p) (drop p out))) st in
-        let m = sofar-more (field_steps 1 l bytes rs) old out new p (placed i (field_step x bytes us)) (field_steps (i + 1) (drop i l) bytes) n at_field fits (made ∙ put_rest p out n.wrote fits last as') in
-        let back : i ≡ i + 1 - 1 = omega arith in
+        let m = sofar-more (field_steps 1 l bytes rs) old out new p (placed i (field_step x bytes us)) (field_steps (i + 1) others bytes) n at_field fits (made ∙ put_rest p out n.wrote fits last as') in
         let long = ap length v ∙ length-drop u rs in
         let wt = t.1.within in
         let to : n.rest ≡ drop (u + z.rows) rs = t.1.is ∙ ap (λ y. drop y us) (sym zr) ∙ ap (drop z.rows) v ∙ drop-drop z.rows u rs in (
           omega arith,
           omega arith,
-          subst (λ y. Sofar (field_steps 1 l bytes rs) old new y (field_steps (i + 1) (drop (i + 1 - 1) l) bytes (drop (u + z.rows) rs))) (ap (λ y. p + y) (sym zb))
-              (subst (λ y. Sofar (field_steps 1 l bytes rs) old new (p + length n.wrote) (field_steps (i + 1) (drop y l) bytes (drop (u + z.rows) rs))) back
-              (subst (λ y. Sofar (field_steps 1 l bytes rs) old new (p + length n.wrote) (field_steps (i + 1) (drop i l) bytes y)) to m)),
+          subst (λ y. Sofar (field_steps 1 l bytes rs) old new y (field_steps (i + 1) others bytes (drop (u + z.rows) rs))) (ap (λ y. p + y) (sym zb))
+              (subst (λ y. Sofar (field_steps 1 l bytes rs) old new (p + length n.wrote) (field_steps (i + 1) others bytes y)) to m),
         )
-
-  pub fields-all : 1 ≤ i → place l i ≡ None → FieldsSofar → out ≡ in_front (bytes_of (field_steps 1 l bytes rs)) old
-  fields-all one e s = sofar-end (field_steps 1 l bytes rs) old out p (drop u rs) (subst (λ fs. Sofar (field_steps 1 l bytes rs) old out p (field_steps i fs bytes (drop u rs))) (drop-at-none l i one e) s)

@@ -1,19 +1,17 @@
 -- The size of a step.
-use Rattle.std.proofs.Common.{◌≡◌, ℕ, suc, ◌+◌, ◌-◌, ◌*◌, ◌^◌, ◌<◌, ◌≤◌, Bool, ltb, List, [], ◌∷◌, length, get_or, drop, IfOk, Some, None, Ok, Err, Result, sym, refl, ap, ◌∙◌, subst, arith, length-append}
+use Rattle.std.proofs.Common.{◌≡◌, ℕ, suc, ◌+◌, ◌-◌, ◌*◌, ◌^◌, ◌<◌, ◌≤◌, Bool, ltb, List, [], ◌∷◌, length, get_or, drop, IfOk, Ok, Err, Result, sym, refl, ap, ◌∙◌, subst, arith, length-append}
 use Rattle.std.proofs.lemmas.List.{drop-drop, length-drop}
 use Rattle.std.proofs.lemmas.Bool.{and_parts, ltb-true}
 use Rattle.basics.specs.declared.refusal.Refusal.{Refusal}
 use Rattle.basics.specs.Refusals.{refusal}
 use Rattle.layouts.specs.declared.field.Field.{Field}
 use Rattle.layouts.specs.Kinds.{Part, figures, Shape, shape, count, line, width}
-use Rattle.layouts.specs.Layouts.{place}
-use Rattle.layouts.proofs.Places.{drop-at-place, drop-at-none}
 use Rattle.lines.proofs.Steps.{absurd-err, same_ok, same-err}
 use Rattle.values.specs.declared.row.ValueRow.{ValueRow}
 use Rattle.values.specs.Writing.{Step, done, refused, before, chain, row_step, line_steps, first_number, field_step, placed, field_steps}
 use Rattle.writing.specs.declared.size.Size.{Size}
 use Rattle.writing.specs.Sizes.{sized}
-use Rattle.writing.proofs.StepLaws.{Ahead, ahead_none, ahead_more, ahead-stop, ahead-end, row_done, lines-tail, field-tail, tail-size}
+use Rattle.writing.proofs.StepLaws.{Ahead, ahead_more, ahead-stop, row_done, lines-tail, field-tail, tail-size}
 
 -- what is refused, and what is written
 pub size-refused : (n i m : ℕ) (x : Step ℕ) → x ≡ refused m → Err (refusal m 2 0 i 0) ≡ sized n (placed i x)
@@ -23,11 +21,6 @@ pub size-done : (n i : ℕ) (x : Step ℕ) (b : List ℕ) (rest : List ValueRow)
 size-done n i x b rest p v e a c =
     let z : ◌≡◌ {A = Size} (record { bytes = p; rows = v }) (record { bytes = length b; rows = n - length rest }) = cc in
     ap Ok z ∙ sym (ap (λ y. sized n (placed i y)) e)
-
-pub sizes-done : (n : ℕ) (x : Step Refusal) (b : List ℕ) (rest : List ValueRow) (p v : ℕ) → x ≡ done b rest → p ≡ length b → v ≡ n - length rest → ◌≡◌ {A = Result Size Refusal} (Ok (record { bytes = p; rows = v })) (sized n x)
-sizes-done n x b rest p v e a c =
-    let z : ◌≡◌ {A = Size} (record { bytes = p; rows = v }) (record { bytes = length b; rows = n - length rest }) = cc in
-    ap Ok z ∙ sym (ap (sized n) e)
 
 -- and back
 pub record Done (n : ℕ) (x : Step ℕ) (z : Size) : Type 0 where
@@ -86,19 +79,6 @@ module _ (ok : List ℕ → Bool) (n i : ℕ) (bytes : List ℕ) (rs : List Valu
       let s = refused-size (length us) i (row_step (line ok) bytes us) e (sym q) in
       let w = ahead-stop (line_steps ok n bytes rs) (row_step (line ok) bytes (drop k rs)) (line_steps ok (n - (k + 1)) bytes) (35 * k) s.number (next-line l h) (ap (row_step (line ok) bytes) (sym u) ∙ s.is) in
       ap Err s.same ∙ size-refused (length rs) i s.number (line_steps ok n bytes rs) w
-
-  pub lines_end_lem : n ≡ k → k ≤ length rs → LinesAhead → ◌≡◌ {A = Result Size Refusal} (Ok (record { bytes = 35 * n; rows = n })) (sized (length rs) (placed i (line_steps ok n bytes rs)))
-  lines_end_lem l r h =
-      let z : n - k ≡ 0 = omega arith in
-      let a = subst (λ x. Ahead (line_steps ok n bytes rs) (35 * k) (line_steps ok x bytes (drop k rs))) z h in
-      let w = a.wide in
-      let d = length-drop k rs in
-      size-done (length rs) i (line_steps ok n bytes rs) a.sofar (drop k rs) (35 * n) n (ahead-end (line_steps ok n bytes rs) (35 * k) (drop k rs) a) (omega arith) (omega arith)
-
-pub lines_start : (ok : List ℕ → Bool) (n i : ℕ) (bytes : List ℕ) (rs : List ValueRow) → LinesAhead ok n i bytes rs 0
-lines_start ok n i bytes rs =
-    let z : n ≡ n - 0 = omega arith in
-    subst (λ x. Ahead (line_steps ok n bytes rs) 0 (line_steps ok x bytes rs)) z (ahead_none (line_steps ok n bytes rs))
 
 -- the number of a refusal does not matter to a row
 pub any-number : (w : ℕ) (ok : ℕ → Bool) (n m : ℕ) (bytes : List ℕ) (rs : List ValueRow) → row_step (figures w ok n) bytes rs ≡ row_step (figures w ok m) bytes rs
@@ -168,41 +148,26 @@ module _ (counts : ℕ → Bool) (ok : List ℕ → Bool) (m i : ℕ) (bytes : L
       )
 
 -- the fields of a layout, one by one
-module _ (l : List Field) (bytes : List ℕ) (rs : List ValueRow) (i u n : ℕ) where
+module _ (l : List Field) (bytes : List ℕ) (rs : List ValueRow) (i u n : ℕ) (left : List Field) where
   abbrev pub FieldsAhead : Type 0
-  FieldsAhead = Ahead (field_steps 1 l bytes rs) n (field_steps i (drop (i - 1) l) bytes (drop u rs))
+  FieldsAhead = Ahead (field_steps 1 l bytes rs) n (field_steps i left bytes (drop u rs))
 
-  module _ (f : Field) (x : Shape) (us : List ValueRow) (e : place l i ≡ Some f) (is : x ≡ shape f) (v : us ≡ drop u rs) where
-    next_field_lem : FieldsAhead → Ahead (field_steps 1 l bytes rs) n (chain (placed i (field_step x bytes us)) (field_steps (i + 1) (drop i l) bytes))
+  module _ (f : Field) (others : List Field) (x : Shape) (us : List ValueRow) (e : left ≡ f ∷ others) (is : x ≡ shape f) (v : us ≡ drop u rs) where
+    next_field_lem : FieldsAhead → Ahead (field_steps 1 l bytes rs) n (chain (placed i (field_step x bytes us)) (field_steps (i + 1) others bytes))
     next_field_lem h =
-        let a = subst (λ fs. Ahead (field_steps 1 l bytes rs) n (field_steps i fs bytes (drop u rs))) (drop-at-place l i f e) h in
-        let b = subst (λ y. Ahead (field_steps 1 l bytes rs) n (chain (placed i (field_step y bytes (drop u rs))) (field_steps (i + 1) (drop i l) bytes))) (sym is) a in
-        subst (λ y. Ahead (field_steps 1 l bytes rs) n (chain (placed i (field_step x bytes y)) (field_steps (i + 1) (drop i l) bytes))) (sym v) b
+        let a = subst (λ fs. Ahead (field_steps 1 l bytes rs) n (field_steps i fs bytes (drop u rs))) e h in
+        let b = subst (λ y. Ahead (field_steps 1 l bytes rs) n (chain (placed i (field_step y bytes (drop u rs))) (field_steps (i + 1) others bytes))) (sym is) a in
+        subst (λ y. Ahead (field_steps 1 l bytes rs) n (chain (placed i (field_step x bytes y)) (field_steps (i + 1) others bytes))) (sym v) b
 
-    pub fields-stop : (q : Refusal) → FieldsAhead → Err q ≡ sized (length us) (placed i (field_step x bytes us)) → Err q ≡ sized (length rs) (field_steps 1 l bytes rs)
-    fields-stop q h g =
-        let s = refused-size (length us) i (field_step x bytes us) q (sym g) in
-        let w = ahead-stop (field_steps 1 l bytes rs) (placed i (field_step x bytes us)) (field_steps (i + 1) (drop i l) bytes) n q (next_field_lem h) (ap (placed i) s.is ∙ ap refused (sym s.same)) in
-        sym (ap (sized (length rs)) w)
-
-    pub fields-more : (z : Size) → u ≤ length rs → FieldsAhead → Ok z ≡ sized (length us) (placed i (field_step x bytes us)) → (u + z.rows ≤ length rs) × Ahead (field_steps 1 l bytes rs) (n + z.bytes) (field_steps (i + 1) (drop (i + 1 - 1) l) bytes (drop (u + z.rows) rs))
+    pub fields-more : (z : Size) → u ≤ length rs → FieldsAhead → Ok z ≡ sized (length us) (placed i (field_step x bytes us)) → (u + z.rows ≤ length rs) × Ahead (field_steps 1 l bytes rs) (n + z.bytes) (field_steps (i + 1) others bytes (drop (u + z.rows) rs))
     fields-more z r h g =
         let d = done-size (length us) i (field_step x bytes us) z (sym g) in
         let t = field-tail x bytes us d.wrote d.rest d.is in
         let size = d.rows ∙ tail-size us d.rest t.0 t.1 in
         let within = t.1.within in
         let long = ap length v ∙ length-drop u rs in
-        let back : i ≡ i + 1 - 1 = omega arith in
-        let a = ahead_more (field_steps 1 l bytes rs) (placed i (field_step x bytes us)) (field_steps (i + 1) (drop i l) bytes) n z.bytes d.wrote d.rest (next_field_lem h) (ap (placed i) d.is) (sym d.bytes) in
+        let a = ahead_more (field_steps 1 l bytes rs) (placed i (field_step x bytes us)) (field_steps (i + 1) others bytes) n z.bytes d.wrote d.rest (next_field_lem h) (ap (placed i) d.is) (sym d.bytes) in
         let to : d.rest ≡ drop (u + z.rows) rs = t.1.is ∙ ap (λ y. drop y us) (sym size) ∙ ap (drop z.rows) v ∙ drop-drop z.rows u rs in (
           omega arith,
-          subst (λ y. Ahead (field_steps 1 l bytes rs) (n + z.bytes) (field_steps (i + 1) (drop y l) bytes (drop (u + z.rows) rs))) back
-              (subst (λ y. Ahead (field_steps 1 l bytes rs) (n + z.bytes) (field_steps (i + 1) (drop i l) bytes y)) to a),
+          subst (λ y. Ahead (field_steps 1 l bytes rs) (n + z.bytes) (field_steps (i + 1) others bytes y)) to a,
         )
-
-  pub fields-end : 1 ≤ i → place l i ≡ None → u ≤ length rs → FieldsAhead → ◌≡◌ {A = Result Size Refusal} (Ok (record { bytes = n; rows = u })) (sized (length rs) (field_steps 1 l bytes rs))
-  fields-end one e r h =
-      let a = subst (λ fs. Ahead (field_steps 1 l bytes rs) n (field_steps i fs bytes (drop u rs))) (drop-at-none l i one e) h in
-      let w = a.wide in
-      let d = length-drop u rs in
-      sizes-done (length rs) (field_steps 1 l bytes rs) a.sofar (drop u rs) n u (ahead-end (field_steps 1 l bytes rs) n (drop u rs) a) (omega arith) (omega arith)

@@ -1,7 +1,7 @@
 -- Steps one after another, and the rows that they take.
-use Rattle.std.proofs.Common.{◌≡◌, ℕ, zero, suc, ◌+◌, ◌-◌, ◌*◌, ◌<◌, ◌≤◌, Bool, true, false, cond, ◌&&◌, eqb, leb, List, [], ◌∷◌, ◌++◌, length, get_or, drop, sym, refl, ap, ◌∙◌, append_assoc, append-nil, arith, length-append}
+use Rattle.std.proofs.Common.{◌≡◌, ℕ, zero, suc, ◌+◌, ◌-◌, ◌*◌, ◌<◌, ◌≤◌, Bool, true, false, cond, ◌&&◌, eqb, leb, List, [], ◌∷◌, ◌++◌, length, get_or, drop, sym, refl, ap, ◌∙◌, append_assoc, arith, length-append}
 use Rattle.std.proofs.lemmas.Bool.{and_parts, leb-true}
-use Rattle.std.proofs.lemmas.List.{drop_more, drop_all, drop-drop, length-drop}
+use Rattle.std.proofs.lemmas.List.{drop_more, drop-drop, length-drop}
 use Rattle.basics.specs.Bytes.{all}
 use Rattle.basics.specs.Texts.{trim}
 use Rattle.basics.proofs.DigitLaws.{length_digits}
@@ -13,10 +13,6 @@ use Rattle.values.proofs.Padding.{length-padded}
 use Rattle.values.proofs.PartLaws.{never}
 use Rattle.values.proofs.FieldLaws.{chained}
 
-pub before-none : {E : Type 0} (x : Step E) → before [] x ≡ x
-before-none (done s rest) = refl
-before-none (refused e) = refl
-
 pub before-before : {E : Type 0} (a b : List ℕ) (x : Step E) → before a (before b x) ≡ before (a ++ b) x
 before-before a b (done s rest) = ap (λ y. done y rest) (sym (append_assoc a b s))
 before-before a b (refused e) = refl
@@ -26,9 +22,6 @@ pub record Ahead {E : Type 0} (whole : Step E) (n : ℕ) (left : Step E) : Type 
   pub sofar : List ℕ
   pub wide : length sofar ≡ n
   pub is : whole ≡ before sofar left
-
-pub ahead_none : {E : Type 0} (x : Step E) → Ahead x 0 x
-ahead_none x = record { sofar = []; wide = refl; is = sym (before-none x) }
 
 pub ahead_more : {E : Type 0} (whole x : Step E) (k : List ValueRow → Step E) (n m : ℕ) (b : List ℕ) (rest : List ValueRow) → Ahead whole n (chain x k) → x ≡ done b rest → length b ≡ m → Ahead whole (n + m) (k rest)
 ahead_more whole x k n m b rest h e l =
@@ -43,9 +36,6 @@ ahead_more whole x k n m b rest h e l =
 pub ahead-stop : {E : Type 0} (whole x : Step E) (k : List ValueRow → Step E) (n : ℕ) (e : E) → Ahead whole n (chain x k) → x ≡ refused e → whole ≡ refused e
 ahead-stop whole x k n e h q = h.is ∙ ap (λ y. before h.sofar (chain y k)) q
 
-pub ahead-end : {E : Type 0} (whole : Step E) (n : ℕ) (rest : List ValueRow) → (h : Ahead whole n (done [] rest)) → whole ≡ done h.sofar rest
-ahead-end whole n rest h = h.is ∙ ap (λ y. done y rest) (append-nil h.sofar)
-
 -- a row that suits is written in the width of its part
 pub length-written : (q : Part) (bytes : List ℕ) (r : ValueRow) → suits q bytes r ≡ true → length (written q bytes r) ≡ width q
 length-written (constant bs) bytes r h = refl
@@ -59,14 +49,8 @@ length-written (code c) bytes r h = refl
 
 -- one row: there is none; it does not suit; it does
 module _ (q : Part) (bytes : List ℕ) (rs : List ValueRow) where
-  pub row-none : length rs ≡ 0 → row_step q bytes rs ≡ refused 42
-  row-none h = ap (row_step q bytes) (drop_all 0 rs (omega arith))
-
   row_at : (d : ValueRow) → 0 < length rs → row_step q bytes rs ≡ cond (suits q bytes (get_or rs 0 d)) (done (written q bytes (get_or rs 0 d)) (drop 1 rs)) (refused 43)
   row_at d h = ap (row_step q bytes) (drop_more rs 0 d h)
-
-  pub row-wrong : (d : ValueRow) → 0 < length rs → suits q bytes (get_or rs 0 d) ≡ false → row_step q bytes rs ≡ refused 43
-  row-wrong d h e = row_at d h ∙ ap (λ t. cond t (done (written q bytes (get_or rs 0 d)) (drop 1 rs)) (refused 43)) e
 
   pub row-right : (d : ValueRow) → 0 < length rs → suits q bytes (get_or rs 0 d) ≡ true → row_step q bytes rs ≡ done (written q bytes (get_or rs 0 d)) (drop 1 rs)
   row-right d h e = row_at d h ∙ ap (λ t. cond t (done (written q bytes (get_or rs 0 d)) (drop 1 rs)) (refused 43)) e

@@ -1,6 +1,6 @@
-// Whether rows can be written as a line, and its size.
+// Whether rows can be written as a line, and its size. The rows are gone over twice, here and in `put`:
+// a refusal has to leave the memory as it was.
 ghost use Rattle.std.specs.Prelude.{◌≡◌, ℕ, ◌<◌, ◌≤◌, length, IfOk};
-ghost use Rattle.basics.specs.declared.refusal.Layer as Layer;
 ghost use Rattle.lines.specs.Rules.{number_test, text_test};
 ghost use Rattle.layouts.specs.Kinds.{block};
 ghost use Rattle.layouts.specs.Layouts.{layout_at};
@@ -13,32 +13,21 @@ use crate::piece::Piece;
 use crate::size::Size;
 use basics::bytes::ByteClass;
 use basics::refusal::{Layer, Reason, Refusal};
+use layouts::fields::fields_of;
 use layouts::set::LayoutSet;
 use lines::rules::{NumberRule, TextRule};
-use values::form::{Form, form_of};
-use values::row::ValueRow;
-
-fn fault(reason: Reason, field: usize) -> Refusal
-    ensures { result ≡ record { reason = reason; layer = Layer.Lines; line = 0; field = field; byte = 0 } }
-{
-    Refusal {
-        reason,
-        layer: Layer::Lines,
-        line: 0,
-        field,
-        byte: 0,
-    }
-}
+use values::form::Form;
+use values::row::Values;
 
 // Whether the first row can be written as a part.
-fn check_row(piece: Piece, field: usize, rows: &[ValueRow], bytes: &[u8]) -> Result<Size, Refusal>
-    ensures { result ≡ sized (length rows.now) (placed field (row_step (part_of piece) bytes.now rows.now)) }
+fn check_row(piece: Piece, field: usize, values: &Values<'_>) -> Result<Size, Refusal>
+    ensures { result ≡ sized (length values.now.rows.now) (placed field (row_step (part_of piece) values.now.bytes.now values.now.rows.now)) }
 {
-    if rows.len() == 0 {
-        return Err(fault(Reason::RowsRunOut, field));
-    }
-    if !piece.suits(rows[0], bytes) {
-        return Err(fault(Reason::ValueBreaksItsField, field));
+    let Some(row) = values.rows.first() else {
+        return Err(Refusal::new(Reason::RowsRunOut, Layer::Lines).in_field(field));
+    };
+    if !piece.suits(*row, values.bytes) {
+        return Err(Refusal::new(Reason::ValueBreaksItsField, Layer::Lines).in_field(field));
     }
     Ok(Size {
         bytes: piece.width(),
@@ -46,20 +35,20 @@ fn check_row(piece: Piece, field: usize, rows: &[ValueRow], bytes: &[u8]) -> Res
     })
 }
 
-// Whether the first rows can be written as n lines of a block.
+// Whether the first rows can be written as n lines of a block. By number, and not over the rows,
+// which may run out before.
 fn check_lines(
     texts: TextRule,
     n: usize,
     field: usize,
-    rows: &[ValueRow],
-    bytes: &[u8],
+    values: &Values<'_>,
 ) -> Result<Size, Refusal>
     requires { n < 100 }
-    ensures { result ≡ sized (length rows.now) (placed field (line_steps (text_test texts) n bytes.now rows.now)) }
+    ensures { result ≡ sized (length values.now.rows.now) (placed field (line_steps (text_test texts) n values.now.bytes.now values.now.rows.now)) }
 {
     for k in 0..n {
         let line = Piece::Letters(35, ByteClass::Text, texts);
-        check_row(line, field, &rows[k..], bytes)?;
+        check_row(line, field, &values.skip(k))?;
     }
     Ok(Size {
         bytes: 35 * n,
@@ -72,15 +61,14 @@ fn check_block(
     counts: NumberRule,
     texts: TextRule,
     field: usize,
-    rows: &[ValueRow],
-    bytes: &[u8],
+    values: &Values<'_>,
 ) -> Result<Size, Refusal>
     ensures small { IfOk result (λ z. z.bytes ≤ 65535) }
-    ensures size { (high : ℕ) → result ≡ sized (length rows.now) (placed field (field_step (block high (number_test counts) (text_test texts)) bytes.now rows.now)) }
+    ensures size { (high : ℕ) → result ≡ sized (length values.now.rows.now) (placed field (field_step (block high (number_test counts) (text_test texts)) values.now.bytes.now values.now.rows.now)) }
 {
-    check_row(Piece::Figures(2, counts), field, rows, bytes)?;
-    let n = rows[0].number as usize;
-    let lines = check_lines(texts, n, field, &rows[1..], bytes)?;
+    check_row(Piece::Figures(2, counts), field, values)?;
+    let n = values.rows[0].number as usize;
+    let lines = check_lines(texts, n, field, &values.skip(1))?;
     Ok(Size {
         bytes: 2 + lines.bytes,
         rows: 1 + lines.rows,
@@ -88,22 +76,20 @@ fn check_block(
 }
 
 // Whether the first rows can be written as a field.
-fn check_field(form: Form, field: usize, rows: &[ValueRow], bytes: &[u8]) -> Result<Size, Refusal>
+fn check_field(form: Form, field: usize, values: &Values<'_>) -> Result<Size, Refusal>
     ensures small { IfOk result (λ z. z.bytes ≤ 65535) }
-    ensures size { result ≡ sized (length rows.now) (placed field (field_step (shape_of form) bytes.now rows.now)) }
+    ensures size { result ≡ sized (length values.now.rows.now) (placed field (field_step (shape_of form) values.now.bytes.now values.now.rows.now)) }
 {
     match form {
         Form::Name(_) => Ok(Size { bytes: 8, rows: 0 }),
         Form::Fill(_, w) => Ok(Size {
-            bytes: w as usize,
+            bytes: usize::from(w),
             rows: 0,
         }),
-        Form::Figures(w, rule) => check_row(Piece::Figures(w, rule), field, rows, bytes),
-        Form::Letters(w, class, rule) => {
-            check_row(Piece::Letters(w, class, rule), field, rows, bytes)
-        }
-        Form::Code(a, b, c, d) => check_row(Piece::Code(a, b, c, d), field, rows, bytes),
-        Form::Block(_, counts, texts) => check_block(counts, texts, field, rows, bytes),
+        Form::Figures(w, rule) => check_row(Piece::Figures(w, rule), field, values),
+        Form::Letters(w, class, rule) => check_row(Piece::Letters(w, class, rule), field, values),
+        Form::Code(a, b, c, d) => check_row(Piece::Code(a, b, c, d), field, values),
+        Form::Block(_, counts, texts) => check_block(counts, texts, field, values),
     }
 }
 
@@ -111,22 +97,16 @@ fn check_field(form: Form, field: usize, rows: &[ValueRow], bytes: &[u8]) -> Res
 pub(crate) fn check_fields<S: LayoutSet>(
     set: &S,
     j: usize,
-    rows: &[ValueRow],
-    bytes: &[u8],
+    values: &Values<'_>,
 ) -> Result<Size, Refusal>
-    ensures { result ≡ sized (length rows.now) (field_steps 1 (layout_at (S.meaning set.now) j) bytes.now rows.now) }
+    ensures { result ≡ sized (length values.now.rows.now) (field_steps 1 (layout_at (S.meaning set.now) j) values.now.bytes.now values.now.rows.now) }
 {
-    let mut wide = 0;
-    let mut used = 0;
-    let mut i = 1;
-    while let Some(f) = set.field(j, i) {
-        let next = check_field(form_of(f), i, &rows[used..], bytes)?;
-        wide += next.bytes;
-        used += next.rows;
-        i += 1;
+    let mut bytes = 0;
+    let mut rows = 0;
+    for (k, f) in fields_of(set, j).enumerate() {
+        let next = check_field(Form::from(f), k + 1, &values.skip(rows))?;
+        bytes += next.bytes;
+        rows += next.rows;
     }
-    Ok(Size {
-        bytes: wide,
-        rows: used,
-    })
+    Ok(Size { bytes, rows })
 }

@@ -11,6 +11,7 @@ use lines::rules::{NumberRule, TextRule};
 use values::row::ValueRow;
 use values::text::text_of;
 
+// An enum, and no closure: contracts name the parts.
 #[derive(Clone, Copy)]
 pub(crate) enum Piece {
     // So many digits, whose number keeps a rule.
@@ -56,8 +57,8 @@ impl Piece {
         ensures { result ≡ width (part_of self) }
     {
         match self {
-            Piece::Figures(w, _) => w as usize,
-            Piece::Letters(w, _, _) => w as usize,
+            Piece::Figures(w, _) => usize::from(w),
+            Piece::Letters(w, _, _) => usize::from(w),
             Piece::Code(_, _, _, _) => 1,
         }
     }

@@ -8,26 +8,11 @@ use basics::bytes::{ByteClass, allows, first_forbidden};
 use basics::text::trimmed;
 use lines::rules::TextRule;
 
-// Ten to the power w.
-fn ten_to(w: u8) -> u64
-    requires { w ≤ 19 }
-    ensures { result ≡ 10 ^ w }
-{
-    let mut n: u64 = 1;
-    for _k in 0..w {
-        n *= 10;
-    }
-    n
-}
-
 // Whether the number has at most w digits.
 pub(crate) fn has_room(w: u8, n: u64) -> bool
     ensures { result ≡ nat_lt n (10 ^ w) }
 {
-    if w > 19 {
-        return true;
-    }
-    n < ten_to(w)
+    w > 19 || n < 10u64.pow(u32::from(w))
 }
 
 // Whether so many blanks are of a class.
@@ -41,7 +26,7 @@ fn takes_blanks(class: ByteClass, n: usize) -> bool
 pub(crate) fn fits(w: u16, class: ByteClass, rule: TextRule, text: &[u8]) -> bool
     ensures { result ≡ fitting w (allowed class) (text_test rule) text.now }
 {
-    if text.len() > w as usize {
+    if text.len() > usize::from(w) {
         return false;
     }
     if trimmed(text).len() != text.len() {
@@ -50,7 +35,7 @@ pub(crate) fn fits(w: u16, class: ByteClass, rule: TextRule, text: &[u8]) -> boo
     if first_forbidden(class, text).is_some() {
         return false;
     }
-    if !takes_blanks(class, w as usize - text.len()) {
+    if !takes_blanks(class, usize::from(w) - text.len()) {
         return false;
     }
     rule.passes(text)

@@ -1,37 +1,38 @@
-use Rattle.std.proofs.Common.{◌-◌, ◌<◌, take, arith}
+use Rattle.std.proofs.Common.{◌-◌, ◌<◌, take, sym, ap, ◌∙◌, arith}
 use Rattle.std.proofs.lemmas.List.{length-take-le}
+use Rattle.changes.specs.Kinds.{number_of}
 use Rattle.changes.proofs.InPlace.{placed, not-placed, behind, not_behind}
 use Rattle.changes.proofs.UndoLaws.{unfit, misfits-2, misfits-3-past, taken-1, taken-2, taken-3, stuck-2, stuck-3}
 use Rattle.drafts.proofs.undo.take_back.Goals as goal
 
-pub returns-in_default-place_of : goal.returns-in_default-place_of
-returns-in_default-place_of c =
+pub returns-in_default : goal.returns-in_default
+returns-in_default c =
     let F = c.args.file.now in
     let f = take c.args.used F in
-    unfit c.args.change c.args.old.now f F (misfits-2 c.args.change c.args.old.now f c.in-2.is (not-placed F c.args.used c.args.change.line c.in_default-place_of.ensures.place))
+    rw c.refused-in_default.ensures (unfit c.args.change c.args.old.now f F (misfits-2 c.args.change c.args.old.now f (sym c.in-Ok-Replaced.ensures ∙ ap number_of c.in-Ok-Replaced.field-0-is) (not-placed F c.args.used c.args.change.line c.in_default.ensures.place)))
 
 pub returns-in_default-behind_lines : goal.returns-in_default-behind_lines
 returns-in_default-behind_lines c =
     let F = c.args.file.now in
     let f = take c.args.used F in
     let n = not_behind F c.args.used (c.args.change.line - 1) c.in_default-behind_lines.ensures.place in
-    unfit c.args.change c.args.old.now f F (misfits-3-past c.args.change c.args.old.now f c.in-3.is (omega arith))
+    rw c.refused-in_default-behind_lines.ensures (unfit c.args.change c.args.old.now f F (misfits-3-past c.args.change c.args.old.now f (sym c.in-Ok-Struck.ensures ∙ ap number_of c.in-Ok-Struck.field-0-is) (omega arith)))
 
 pub returns-then-old-file : goal.returns-then-old-file
 returns-then-old-file c =
     let F = c.args.file.now in
     let p = placed F c.args.used c.args.change.line c.in-Some.place c.in-Some.ensures.place in
-    stuck-2 c.args.change c.args.old.now F c.args.used c.requires c.in-Some.place.at c.in-Some.place.size c.in-2.is p c.if-old-file.true
+    rw c.refused-then-old-file.ensures (stuck-2 c.args.change c.args.old.now F c.args.used c.requires c.in-Some.place.at c.in-Some.place.size (sym c.in-Ok-Replaced.ensures ∙ ap number_of c.in-Ok-Replaced.field-0-is) p c.if-old-file.true)
 
 pub returns-then-old-file-2 : goal.returns-then-old-file-2
 returns-then-old-file-2 c =
     let F = c.args.file.now in
     let some : 0 < c.args.change.line = omega arith in
     let b = behind F c.args.used (c.args.change.line - 1) c.in-Some-behind_lines.at c.in-Some-behind_lines.ensures.place in
-    stuck-3 c.args.change c.args.old.now F c.args.used c.requires c.in-Some-behind_lines.at c.in-3.is some b c.if-old-file-2.true
+    rw c.refused-then-old-file-2.ensures (stuck-3 c.args.change c.args.old.now F c.args.used c.requires c.in-Some-behind_lines.at (sym c.in-Ok-Struck.ensures ∙ ap number_of c.in-Ok-Struck.field-0-is) some b c.if-old-file-2.true)
 
 pub returns-else-change-used : goal.returns-else-change-used
-returns-else-change-used c = taken-1 c.args.change c.args.old.now c.args.file.now c.args.used c.requires c.in-1.is c.if-change-used.false
+returns-else-change-used c = taken-1 c.args.change c.args.old.now c.args.file.now c.args.used c.requires (sym c.in-Ok-AtTheEnd.ensures ∙ ap number_of c.in-Ok-AtTheEnd.field-0-is) c.if-change-used.false
 
 pub returns-else-old-file : goal.returns-else-old-file
 returns-else-old-file c =
@@ -42,7 +43,7 @@ returns-else-old-file c =
     let long = length-take-le u F c.requires in
     let room = c.if-old-file.false in
     let end = c.splice.ensures.used in
-    taken-2 c.args.change c.args.old.now F u c.requires c.in-Some.place.at c.in-Some.place.size c.splice.result c.splice.new.memory c.in-2.is p c.splice.ensures.holds (omega arith) (omega arith)
+    taken-2 c.args.change c.args.old.now F u c.requires c.in-Some.place.at c.in-Some.place.size c.splice.result c.splice.new.memory (sym c.in-Ok-Replaced.ensures ∙ ap number_of c.in-Ok-Replaced.field-0-is) p c.splice.ensures.holds (omega arith) (omega arith)
 
 pub returns-else-old-file-2 : goal.returns-else-old-file-2
 returns-else-old-file-2 c =
@@ -52,5 +53,5 @@ returns-else-old-file-2 c =
     let b = behind F u (c.args.change.line - 1) c.in-Some-behind_lines.at c.in-Some-behind_lines.ensures.place in
     let room = c.if-old-file-2.false in
     let mid = c.splice-end.ensures.used in
-    let end = c.splice-in-3.ensures.used in
-    taken-3 c.args.change c.args.old.now F u c.requires c.in-Some-behind_lines.at c.splice-end.result c.splice-in-3.result c.splice-end.new.memory c.splice-in-3.new.memory c.in-3.is some b c.splice-end.ensures.holds c.splice-in-3.ensures.holds (omega arith) (omega arith)
+    let end = c.splice-in-Ok-Struck.ensures.used in
+    taken-3 c.args.change c.args.old.now F u c.requires c.in-Some-behind_lines.at c.splice-end.result c.splice-in-Ok-Struck.result c.splice-end.new.memory c.splice-in-Ok-Struck.new.memory (sym c.in-Ok-Struck.ensures ∙ ap number_of c.in-Ok-Struck.field-0-is) some b c.splice-end.ensures.holds c.splice-in-Ok-Struck.ensures.holds (omega arith) (omega arith)

@@ -1,80 +1,78 @@
-use Rattle.std.proofs.Common.{◌+◌, ◌-◌, length, drop, sym, ap, ◌∙◌, arith}
+use Rattle.std.proofs.Common.{◌≡◌, ◌+◌, ◌∷◌, ◌++◌, length, drop, sym, refl, ap, ◌∙◌, subst, arith, rules}
 use Rattle.layouts.specs.Layouts.{layout_at}
-use Rattle.layouts.proofs.Places.{place-within}
-use Rattle.layouts.proofs.Laws.{lawful-fields}
+use Rattle.lines.specs.Belongs.{Follows}
 use Rattle.values.specs.Forms.{shape_of}
 use Rattle.values.specs.Values.{cuts}
 use Rattle.values.specs.Rows.{field_rows, rows_in, rows_of, laid}
-use Rattle.reading.proofs.RowSteps.{laid-front}
-use Rattle.reading.proofs.Walks.{narrow_at, part-lawful, turn, rows_end, laid_more, length-split}
+use Rattle.reading.proofs.RowSteps.{laid-front, length-laid}
+use Rattle.reading.proofs.Walks.{Figured, all_figured, figured-rest, narrow_first, turn, laid_more, length-split}
 use Rattle.reading.proofs.fields.put_rows.Goals as goal
 
-pub part_at-part-requires : goal.part_at-part-requires
-part_at-part-requires g c =
-    let l = layout_at (g.S.LayoutSet.meaning c.args.set.now) c.args.j in
+pub loop-f-init : goal.loop-f-init
+loop-f-init g c =
+    let ls = g.S.LayoutSet.meaning c.args.set.now in
+    let all = c.into_iter-f-iterator.ensures.into_iter_gives ∙ c.fields_of-f-items.ensures in
+    let none = c.over-stack.ensures.used in
+    let sum = ap (λ fs. length (rows_in fs 0 (cuts fs c.args.line.now))) all in
     record {
-      here = c.loop-f.invariant.1;
-      lawful = part-lawful l c.args.line.now c.loop-f.i c.loop-f.before c.in-Some.f (shape_of c.form_of-form.result) (sym c.in-Some.ensures) c.form_of-form.ensures c.loop-f.invariant.2;
+      inside = omega arith;
+      figured = subst Figured (sym all) (all_figured ls c.args.j (g.met.S.LayoutSet.lawful c.args.set.now));
+      follows = subst (λ fs. Follows fs c.args.line.now) (sym all) c.requires.follows;
+      lent = refl;
+      long = refl;
+      sum = omega arith;
+      rows = ap (λ u. laid c.over-stack.result.rows.now u (rows_in c.into_iter-f-iterator.result 0 (cuts c.into_iter-f-iterator.result c.args.line.now))) none ∙ ap (λ fs. laid c.over-stack.result.rows.now 0 (rows_in fs 0 (cuts fs c.args.line.now))) all;
     }
 
-pub put_part-used-requires : goal.put_part-used-requires
-put_part-used-requires g c =
-    let ls = g.S.LayoutSet.meaning c.args.set.now in
-    let l = layout_at ls c.args.j in
+pub put-requires-clause-lawful : goal.put-requires-clause-lawful
+put-requires-clause-lawful g c =
     let line = c.args.line.now in
-    let i = c.loop-f.i in
     let p = c.loop-f.before in
-    let x = shape_of c.form_of-form.result in
-    let s = c.part_at-part.result.now in
-    let t = turn l line i p c.in-Some.f x s c.loop-f.invariant.1 (sym c.in-Some.ensures) c.form_of-form.ensures c.loop-f.invariant.2 c.part_at-part.ensures in
-    let all = length-split (rows_in (drop (i - 1) l) p (cuts (drop (i - 1) l) (drop p line))) (field_rows x p s) (rows_in (drop (i + 1 - 1) l) (p + length s) (cuts (drop (i + 1 - 1) l) (drop (p + length s) line))) t.rows in
-    let sum = c.loop-f.invariant.3 in
-    let room = c.requires.room in
-    let same = c.loop-f.auto.rows in
-    record {
-      lawful = (t.lawful, narrow_at ls c.args.j i c.in-Some.f x (g.met.S.LayoutSet.lawful c.args.set.now) (sym c.in-Some.ensures) c.form_of-form.ensures);
-      near = let n = t.inside in omega arith;
-      room = omega arith;
-    }
-
-pub overflow_add-i : goal.overflow_add-i
-overflow_add-i g c =
-    let ls = g.S.LayoutSet.meaning c.args.set.now in
-    let m = lawful-fields ls c.args.j (g.met.S.LayoutSet.lawful c.args.set.now) in
-    let h = place-within (layout_at ls c.args.j) c.loop-f.i c.in-Some.f (sym c.in-Some.ensures) in
-    omega arith
-
-pub loop-f-smaller : goal.loop-f-smaller
-loop-f-smaller g c =
-    let ls = g.S.LayoutSet.meaning c.args.set.now in
-    let h = place-within (layout_at ls c.args.j) c.loop-f.i c.in-Some.f (sym c.in-Some.ensures) in
-    omega arith
+    let fs = c.next.new.self in
+    let f = c.in-Some.f in
+    let x = shape_of c.from-form.result in
+    let h = subst (λ fs. Follows fs (drop p line)) c.in-Some.ensures.steps c.loop-f.invariant.follows in
+    let t = turn f fs line p x c.part_at-part.result.now c.loop-f.invariant.inside c.from-form.ensures h c.part_at-part.ensures in
+    (t.lawful, narrow_first f fs x (subst Figured c.in-Some.ensures.steps c.loop-f.invariant.figured) c.from-form.ensures)
 
 pub loop-f-preserved : goal.loop-f-preserved
 loop-f-preserved g c =
-    let l = layout_at (g.S.LayoutSet.meaning c.args.set.now) c.args.j in
     let line = c.args.line.now in
-    let i = c.loop-f.i in
     let p = c.loop-f.before in
-    let x = shape_of c.form_of-form.result in
+    let fs = c.next.new.self in
+    let f = c.in-Some.f in
+    let x = shape_of c.from-form.result in
     let s = c.part_at-part.result.now in
-    let t = turn l line i p c.in-Some.f x s c.loop-f.invariant.1 (sym c.in-Some.ensures) c.form_of-form.ensures c.loop-f.invariant.2 c.part_at-part.ensures in
-    let whole = rows_in (drop (i - 1) l) p (cuts (drop (i - 1) l) (drop p line)) in
+    let h = subst (λ fs. Follows fs (drop p line)) c.in-Some.ensures.steps c.loop-f.invariant.follows in
+    let t = turn f fs line p x s c.loop-f.invariant.inside c.from-form.ensures h c.part_at-part.ensures in
+    let whole = rows_in (f ∷ fs) p (cuts (f ∷ fs) (drop p line)) in
     let ys = field_rows x p s in
-    let zs = rows_in (drop (i + 1 - 1) l) (p + length s) (cuts (drop (i + 1 - 1) l) (drop (p + length s) line)) in
+    let zs = rows_in fs (p + length s) (cuts fs (drop (p + length s) line)) in
     let all = length-split whole ys zs t.rows in
-    let sum = c.loop-f.invariant.3 in
-    let u = c.put_part-used.ensures.used in (
-      omega arith,
-      t.inside,
-      t.after,
-      omega arith,
-      laid_more (laid c.args.rows.now 0 (rows_of l line)) c.loop-f.rows c.put_part-used.new.rows ys zs whole c.loop-f.used c.put_part-used.result t.rows c.put_part-used.ensures.rows u c.loop-f.invariant.4,
-    )
+    let same = ap (λ l. rows_in l p (cuts l (drop p line))) c.in-Some.ensures.steps in
+    let long = ap length same in
+    let sum = c.loop-f.invariant.sum in
+    let u = c.put.ensures.used in
+    record {
+      inside = t.inside;
+      figured = figured-rest f fs (subst Figured c.in-Some.ensures.steps c.loop-f.invariant.figured);
+      follows = t.after;
+      lent = c.put.ensures.lent ∙ c.loop-f.invariant.lent;
+      long = ap length c.put.ensures.rows ∙ length-laid c.loop-f.stack.rows.now c.loop-f.stack.used ys ∙ c.loop-f.invariant.long;
+      sum = omega arith;
+      rows =
+          laid_more (laid c.over-stack.result.rows.now 0 (rows_of (layout_at (g.S.LayoutSet.meaning c.args.set.now) c.args.j) line)) c.loop-f.stack.rows.now c.put.new.stack.rows.now ys zs whole c.loop-f.stack.used c.put.new.stack.used t.rows c.put.ensures.rows u
+          (sym (ap (laid c.loop-f.stack.rows.now c.loop-f.stack.used) same) ∙ c.loop-f.invariant.rows);
+    }
 
 pub returns : goal.returns
 returns g c =
-    let l = layout_at (g.S.LayoutSet.meaning c.args.set.now) c.args.j in
     let line = c.args.line.now in
-    let e = rows_end l line c.loop-f.i c.loop-f.before c.loop-f.invariant.0 (sym c.in_default.ensures) in
-    ap (laid c.loop-f.rows c.loop-f.used) (sym e) ∙ c.loop-f.invariant.4 ∙ laid-front c.args.rows.now (rows_of l line) c.requires.room
+    let rows = rows_of (layout_at (g.S.LayoutSet.meaning c.args.set.now) c.args.j) line in
+    let left = c.in-None.ensures.steps.0 in
+    let e : c.loop-f.stack.rows.now ≡ rows ++ drop (length rows) c.args.rows.now =
+    sym (ap (λ fs. laid c.loop-f.stack.rows.now c.loop-f.stack.used (rows_in fs c.loop-f.before (cuts fs (drop c.loop-f.before line)))) left)
+    ∙ c.loop-f.invariant.rows
+    ∙ ap (λ old. laid old 0 rows) c.over-stack.ensures.same
+    ∙ laid-front c.args.rows.now rows c.requires.room in
+    search (rules, e)

@@ -1,13 +1,6 @@
 use Rattle.std.proofs.Common.{◌+◌, sym, ap, ◌∙◌, arith}
-use Rattle.std.proofs.lemmas.List.{length-take}
 use Rattle.reading.proofs.RowSteps.{is_block}
 use Rattle.reading.proofs.parts.count_part.Goals as goal
-
-pub number_in-requires : goal.number_in-requires
-number_in-requires c =
-    let b = is_block c.args.form c.in-Block.field-0 c.in-Block.field-1 c.in-Block.field-2 c.args.part.now c.in-Block.is c.requires in
-    let t = length-take 2 c.args.part.now in
-    (b.counted.digits, omega arith)
 
 pub returns-in-Block : goal.returns-in-Block
 returns-in-Block c =

@@ -1,74 +1,60 @@
-use Rattle.std.proofs.Common.{◌+◌, ◌-◌, length, take, drop, sym, ap, ◌∙◌, arith, length-append}
+use Rattle.std.proofs.Common.{◌+◌, length, set, sym, ap, ◌∙◌, arith, length-append}
 use Rattle.lines.specs.Judging.{judged}
-use Rattle.reports.specs.Surveys.{fault_of, faults_from, faults_of, laid}
+use Rattle.reports.specs.Surveys.{fault_of, rest_fault, faults_from, faults_of, laid}
 use Rattle.reports.proofs.Laying.{laid-append, laid-over}
-use Rattle.reports.proofs.Faults.{inside, one-fault, line-more, faults-more, faults-last, lines-last, rest-stands, rest-empty}
+use Rattle.reports.proofs.Faults.{one-fault, faults-first, lines-first, faults-rest, lines_rest, rest-stands, stands, none-stands}
+use Rattle.files.proofs.FirstLines.{long-is}
 use Rattle.reports.proofs.survey.survey.Goals as goal
 
-pub overflow_add-end : goal.overflow_add-end
-overflow_add-end g c =
-    let w = inside c.args.bytes.now c.loop-k.at c.in-Some.k c.in-Some.ensures c.loop-k.invariant.2 in omega arith
-
-pub slice_bounds-note_line-end : goal.slice_bounds-note_line-end
-slice_bounds-note_line-end g c =
-    let w = inside c.args.bytes.now c.loop-k.at c.in-Some.k c.in-Some.ensures c.loop-k.invariant.2 in omega arith
-
-pub overflow_add-at : goal.overflow_add-at
-overflow_add-at g c =
-    let w = inside c.args.bytes.now c.loop-k.at c.in-Some.k c.in-Some.ensures c.loop-k.invariant.2 in omega arith
-
-pub loop-k-smaller : goal.loop-k-smaller
-loop-k-smaller g c =
-    let w = inside c.args.bytes.now c.loop-k.at c.in-Some.k c.in-Some.ensures c.loop-k.invariant.2 in omega arith
-
-pub loop-k-preserved : goal.loop-k-preserved
-loop-k-preserved g c =
-    let f = c.args.bytes.now in
-    let at = c.loop-k.at in
-    let k = c.in-Some.k in
-    let e = c.in-Some.ensures in
+pub loop-line-preserved : goal.loop-line-preserved
+loop-line-preserved g c =
     let M = g.S.LayoutSet.meaning c.args.set.now in
-    let n = c.loop-k.lines + 1 in
-    let w = inside f at k e c.loop-k.invariant.2 in
-    let this = fault_of n (judged M (take (at + k - at) (drop at f))) in
-    let left = faults_from M (n + 1) (drop (at + k + 2) f) in
-    let more = faults-more f at k e M n in
-    let few = one-fault n (judged M (take (at + k - at) (drop at f))) in (
-      omega arith,
-      omega arith,
-      omega arith,
-      omega (arith, line-more f at k e),
-      omega (arith, ap length more, length-append this left),
-      (λ i. laid (c.note_line-bad.ensures.rows i) (c.note_line-bad.ensures.count i) left)
-          ∙ sym (laid-append c.loop-k.rows c.loop-k.bad this left)
-          ∙ ap (laid c.loop-k.rows c.loop-k.bad) (sym more)
-          ∙ c.loop-k.invariant.5,
-    )
-
-pub returns-then-at-bytes : goal.returns-then-at-bytes
-returns-then-at-bytes g c =
-    let f = c.args.bytes.now in
-    let at = c.loop-k.at in
-    let e = c.in_default.ensures in
-    let M = g.S.LayoutSet.meaning c.args.set.now in
-    let n = c.loop-k.lines + 1 in
-    let last = faults-last f at e M n ∙ rest-stands f at n c.if-at-bytes.true in
+    let n = c.loop-line.lines + 1 in
+    let line = c.in-Some.line.now in
+    let t = c.next.new.self in
+    let h = c.in-Some.ensures.steps in
+    let this = fault_of n (judged M line) in
+    let left = faults_from M (n + 1) t in
+    let more = faults-first c.loop-line.left line t h M n in
+    let lines = lines-first c.loop-line.left line t h in
+    let long = long-is c.loop-line.left line t h in
+    let few = one-fault n (judged M line) in
+    let k = c.loop-line.invariant in
     record {
-      lines = omega (arith, lines-last f at e, ap length (rest-stands f at 0 c.if-at-bytes.true));
-      bad = omega (arith, ap length last);
-      rows = c.note.ensures ∙ ap (laid c.loop-k.rows c.loop-k.bad) (sym last) ∙ c.loop-k.invariant.5 ∙ laid-over c.args.rows.now (faults_of M f);
+      fewer = omega arith;
+      few = omega arith;
+      lines = omega arith;
+      bad = omega (arith, ap length more, length-append this left);
+      rows =
+          (λ i. laid (c.note_line-bad.ensures.rows i) (c.note_line-bad.ensures.count i) left)
+          ∙ sym (laid-append c.loop-line.rows c.loop-line.bad this left)
+          ∙ ap (laid c.loop-line.rows c.loop-line.bad) (sym more)
+          ∙ c.loop-line.invariant.rows;
     }
 
-pub returns-else-at-bytes : goal.returns-else-at-bytes
-returns-else-at-bytes g c =
-    let f = c.args.bytes.now in
-    let at = c.loop-k.at in
-    let e = c.in_default.ensures in
+pub returns-then-not-is_empty : goal.returns-then-not-is_empty
+returns-then-not-is_empty g c =
     let M = g.S.LayoutSet.meaning c.args.set.now in
-    let n = c.loop-k.lines + 1 in
-    let last = faults-last f at e M n ∙ rest-empty f at n c.if-at-bytes.false in
+    let n = c.loop-line.lines + 1 in
+    let f = c.loop-line.left in
+    let h = c.in_default.ensures.steps in
+    let some = ap length (sym (c.rest.ensures ∙ h.1)) in
+    let stand = stands c.rest.result.now c.if-not-is_empty.ensures in
+    let last = faults-rest M n f h.0 ∙ rest-stands f n (omega arith) in
+    let row = ap (λ k. record { line = n; field = 0; byte = 0; number = k }) c.number.ensures.value in
+    let k = c.loop-line.invariant in
     record {
-      lines = omega (arith, lines-last f at e, ap length (rest-empty f at 0 c.if-at-bytes.false));
+      lines = omega (arith, lines_rest f h.0, ap length (rest-stands f 0 (omega arith)));
       bad = omega (arith, ap length last);
-      rows = ap (laid c.loop-k.rows c.loop-k.bad) (sym last) ∙ c.loop-k.invariant.5 ∙ laid-over c.args.rows.now (faults_of M f);
+      rows = c.note.ensures ∙ ap (set c.loop-line.rows c.loop-line.bad) row ∙ ap (laid c.loop-line.rows c.loop-line.bad) (sym last) ∙ c.loop-line.invariant.rows ∙ laid-over c.args.rows.now (faults_of M c.args.bytes.now);
     }
+
+pub returns-else-not-is_empty-clause-rows : goal.returns-else-not-is_empty-clause-rows
+returns-else-not-is_empty-clause-rows g c =
+    let M = g.S.LayoutSet.meaning c.args.set.now in
+    let n = c.loop-line.lines + 1 in
+    let f = c.loop-line.left in
+    let h = c.in_default.ensures.steps in
+    let none = sym (c.rest.ensures ∙ h.1) ∙ none-stands c.rest.result.now c.if-not-is_empty.ensures in
+    let last = faults-rest M n f h.0 ∙ ap (rest_fault n) none in
+    ap (laid c.loop-line.rows c.loop-line.bad) (sym last) ∙ c.loop-line.invariant.rows ∙ laid-over c.args.rows.now (faults_of M c.args.bytes.now)

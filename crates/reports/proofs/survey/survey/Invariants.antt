@@ -1,16 +1,17 @@
-use Rattle.std.proofs.Common.{◌≡◌, ◌+◌, ◌-◌, ◌≤◌, length, drop}
+use Rattle.std.proofs.Common.{◌≡◌, ◌+◌, ◌≤◌, length}
 use Rattle.reports.specs.Surveys.{faults_from, faults_of, lines_in, laid}
 use Rattle.reports.proofs.survey.survey.Given as goal
 
 -- what is counted and laid, and what is left, are the whole
-abbrev pub invariant-loop-k : goal.invariant-loop-k
-invariant-loop-k g l =
-    (l.bad ≤ l.lines)
-    × (l.lines ≤ l.at)
-    × (l.at ≤ length l.bytes)
-    × (l.lines + lines_in (drop l.at l.bytes) ≡ lines_in l.bytes)
-    × (l.bad + length (faults_from (g.S.LayoutSet.meaning l.set) (l.lines + 1) (drop l.at l.bytes)) ≡ length (faults_of (g.S.LayoutSet.meaning l.set) l.bytes))
-    × (laid l.rows l.bad (faults_from (g.S.LayoutSet.meaning l.set) (l.lines + 1) (drop l.at l.bytes)) ≡ laid l.initial.rows 0 (faults_of (g.S.LayoutSet.meaning l.set) l.bytes))
+abbrev pub invariant-loop-line : goal.invariant-loop-line
+invariant-loop-line g l =
+    record {
+      fewer : l.bad ≤ l.lines;
+      few : l.lines + length l.left ≤ length l.bytes;
+      lines : l.lines + lines_in l.left ≡ lines_in l.bytes;
+      bad : l.bad + length (faults_from (g.S.LayoutSet.meaning l.set) (l.lines + 1) l.left) ≡ length (faults_of (g.S.LayoutSet.meaning l.set) l.bytes);
+      rows : laid l.rows l.bad (faults_from (g.S.LayoutSet.meaning l.set) (l.lines + 1) l.left) ≡ laid l.initial.rows 0 (faults_of (g.S.LayoutSet.meaning l.set) l.bytes);
+    }
 
-abbrev pub decreases-loop-k : goal.decreases-loop-k
-decreases-loop-k g l = length l.bytes - l.at
+abbrev pub decreases-loop-line : goal.decreases-loop-line
+decreases-loop-line g l = length l.left

@@ -1,4 +1,4 @@
-use Rattle.std.proofs.Common.{◌+◌, ◌≤◌, length, get_or, drop, sym, refl, ap, ◌∙◌, arith}
+use Rattle.std.proofs.Common.{◌+◌, ◌≤◌, length, get_or, drop, sym, ap, ◌∙◌, arith}
 use Rattle.reports.specs.declared.fault_row.FaultRow.{FaultRow}
 use Rattle.reports.specs.Reports.{fault_line, fault_lines, head_line, put_into}
 use Rattle.reports.proofs.Putting.{put_at, put_next, put-nothing, lines_more, lines_end_lem}
@@ -6,9 +6,6 @@ use Rattle.reports.proofs.writing.put_lines.Goals as goal
 
 no_row : FaultRow
 no_row = record { line = 0; field = 0; byte = 0; number = 0 }
-
-pub loop-row-init : goal.loop-row-init
-loop-row-init c = (refl, refl)
 
 pub loop-row-preserved : goal.loop-row-preserved
 unfolding no_row

@@ -1,59 +1,31 @@
-use Rattle.std.proofs.Common.{◌+◌, ◌<◌, length, sym, ap, ◌∙◌, arith}
-use Rattle.std.proofs.lemmas.List.{length-drop}
+use Rattle.std.proofs.Common.{◌≤◌, length, sym, ◌∙◌, arith}
+use Rattle.std.proofs.lemmas.List.{take_rest}
 use Rattle.std.proofs.lemmas.Result.{err_from_is_err_and}
-use Rattle.std.proofs.lemmas.Bool.{eqb-false}
-use Rattle.strips.specs.Layers.{layouts_of}
-use Rattle.strips.specs.Loads.{closed, read}
+use Rattle.strips.specs.Loads.{read}
 use Rattle.strips.specs.Readers.{reading_of}
-use Rattle.strips.proofs.ReaderLaws.{tells-on, tells-same, answers-same}
-use Rattle.strips.proofs.Steps.{turn, width-there, read_more, read-end, read_first}
+use Rattle.strips.proofs.ReaderLaws.{tells-on, tells-same}
+use Rattle.strips.proofs.Steps.{turn, body-left, read_more}
 use Rattle.strips.proofs.reader.read_strips.Goals as goal
 
-pub returns-in_err-reader : goal.returns-in_err-reader
-returns-in_err-reader c =
-    let p = err_from_is_err_and c.from_residual.result c.from_residual.ensures.1 in
-    let s = c.args.strips.now in
-    let n = c.loop-place.place in
-    let r = reading_of c.loop-place.reader in
-    let some : 0 < length s = omega (arith, eqb-false (length s) 0 (sym c.if-is_empty.ensures)) in
-    let same = turn s n r c.loop-place-test.true in
-    rw (p.1, p.2)
-    (tells-same _ (read s) _ (sym same ∙ c.loop-place.invariant.1 ∙ read_first s some c.if-strips-ne85.false)
-    (tells-on _ _ _ c.in_err-reader.ensures))
+pub returns-in_err-reader-2 : goal.returns-in_err-reader-2
+returns-in_err-reader-2 c =
+    let p = err_from_is_err_and c.from_residual-in_err-reader-2.result c.from_residual-in_err-reader-2.ensures.1 in
+    let l = c.in-Some in
+    let t = turn (length c.args.strips.now) (reading_of c.loop-letter.reader) l.letter.now l.behind.now c.loop-letter.rest.now l.ensures.cases.0 c.loop-letter.invariant.0 in
+    rw (p.1, p.2) (tells-same _ (read c.args.strips.now) _ (sym t ∙ c.loop-letter.invariant.1) (tells-on _ _ _ c.in_err-reader-2.ensures))
 
-pub overflow_add-place : goal.overflow_add-place
-overflow_add-place c =
-    let s = c.args.strips.now in
-    let n = c.loop-place.place in
-    let w = width-there s n (reading_of c.loop-place.reader) (reading_of c.in_ok-reader.reader) c.in_ok-reader.ensures in
-    let d = length-drop (n + 1) s in
+pub slice_bounds-rest-count-in-Some : goal.slice_bounds-rest-count-in-Some
+slice_bounds-rest-count-in-Some c =
+    let h : c.width_after.result ≤ length c.in-Some.behind.now = body-left _ (reading_of c.loop-letter.reader) c.in-Some.letter.now _ (reading_of c.in_ok-reader-2.reader) _ c.width_after.ensures c.in_ok-reader-2.ensures in
     omega arith
 
-pub overflow_add-place-in-loop-place : goal.overflow_add-place-in-loop-place
-overflow_add-place-in-loop-place c =
-    let s = c.args.strips.now in
-    let n = c.loop-place.place in
-    let w = width-there s n (reading_of c.loop-place.reader) (reading_of c.in_ok-reader.reader) c.in_ok-reader.ensures in
-    let d = length-drop (n + 1) s in
+pub slice_bounds-rest-start-in-Some : goal.slice_bounds-rest-start-in-Some
+slice_bounds-rest-start-in-Some c =
+    let h : c.width_after.result ≤ length c.in-Some.behind.now = body-left _ (reading_of c.loop-letter.reader) c.in-Some.letter.now _ (reading_of c.in_ok-reader-2.reader) _ c.width_after.ensures c.in_ok-reader-2.ensures in
     omega arith
 
-pub loop-place-preserved : goal.loop-place-preserved
-loop-place-preserved c =
-    let s = c.args.strips.now in
-    let n = c.loop-place.place in
-    let r = reading_of c.loop-place.reader in
-    let q = reading_of c.in_ok-reader.reader in
-    let w = width-there s n r q c.in_ok-reader.ensures in
-    let d = length-drop (n + 1) s in
-    let e = ap (λ m. n + (1 + m)) c.width_after.ensures in
-    let t = read_more s n r q (n + (1 + c.width_after.result)) c.loop-place-test.true c.in_ok-reader.ensures e in
-    (omega arith, sym t ∙ c.loop-place.invariant.1)
-
-pub returns : goal.returns
-returns c =
-    let s = c.args.strips.now in
-    let r = reading_of c.loop-place.reader in
-    let some : 0 < length s = omega (arith, eqb-false (length s) 0 (sym c.if-is_empty.ensures)) in
-    answers-same c.close.result layouts_of (read s) (closed r)
-    (sym (read-end s c.loop-place.place r c.loop-place-test.false) ∙ c.loop-place.invariant.1 ∙ read_first s some c.if-strips-ne85.false)
-    c.close.ensures
+pub loop-letter-preserved : goal.loop-letter-preserved
+loop-letter-preserved c =
+    let l = c.in-Some in
+    let m = read_more (length c.args.strips.now) (reading_of c.loop-letter.reader) l.letter.now l.behind.now c.loop-letter.rest.now l.ensures.cases.0 c.loop-letter.invariant.0 (reading_of c.in_ok-reader-2.reader) c.width_after.result c.width_after.ensures c.in_ok-reader-2.ensures in
+    rw (take_rest l.behind.now c.width_after.result) (m.0, m.1 ∙ c.loop-letter.invariant.1)

@@ -1,51 +1,49 @@
-use Rattle.std.proofs.Common.{sym, arith}
-use Rattle.std.proofs.lemmas.List.{take_rest}
-use Rattle.std.proofs.lemmas.Result.{err_from_is_err_and}
+use Rattle.std.proofs.Common.{◌+◌, length, drop, inl, ap, sym, ◌∙◌, subst, arith}
 use Rattle.layouts.specs.Layouts.{layout_at}
-use Rattle.layouts.proofs.Places.{place-within}
 use Rattle.layouts.proofs.Laws.{lawful-fields}
 use Rattle.values.specs.Forms.{shape_of}
-use Rattle.writing.proofs.SizeLaws.{fields-stop, fields-more, fields-end}
+use Rattle.values.specs.Writing.{field_step, field_steps, placed}
+use Rattle.writing.specs.Sizes.{sized}
+use Rattle.writing.proofs.StepLaws.{Ahead}
+use Rattle.writing.proofs.SizeLaws.{fields-more}
 use Rattle.writing.proofs.check.check_fields.Goals as goal
 
-pub returns-in_err-next : goal.returns-in_err-next
-returns-in_err-next g c =
-    let p = err_from_is_err_and c.from_residual.result c.from_residual.ensures.1 in
+pub loop-k-init-derived : goal.loop-k-init-derived
+loop-k-init-derived g c =
+    let few = lawful-fields (g.S.LayoutSet.meaning c.args.set.now) c.args.j (g.met.S.LayoutSet.lawful c.args.set.now) in
+    let it = c.into_iter-k-iterator.ensures.into_iter_gives in
+    let left = ap length (ap (λ x. x.iter) it ∙ c.enumerate-k-items.ensures.source ∙ c.fields_of.ensures) in
+    let none = ap (λ x. x.count) it ∙ c.enumerate-k-items.ensures.count in
+    ((tt, tt, inl (omega arith)), tt)
+
+pub overflow_add-bytes : goal.overflow_add-bytes
+overflow_add-bytes g c =
+    let few = lawful-fields (g.S.LayoutSet.meaning c.args.set.now) c.args.j (g.met.S.LayoutSet.lawful c.args.set.now) in
+    let counted = c.loop-k.invariant.counted in
+    omega (arith, c.loop-k.invariant.small, c.in_ok-next.ensures.small)
+
+pub loop-k-preserved : goal.loop-k-preserved
+loop-k-preserved g c =
     let l = layout_at (g.S.LayoutSet.meaning c.args.set.now) c.args.j in
-    let rs = c.args.rows.now in
-    rw (p.1, p.2)
-    (fields-stop l c.args.bytes.now rs c.loop-f.i c.loop-f.used c.loop-f.wide c.in-Some.f (shape_of c.form_of.result) _ (sym c.in-Some.ensures) c.form_of.ensures (take_rest rs c.loop-f.used) c.in_err-next.field-0.0 c.loop-f.invariant.3 c.in_err-next.ensures.size)
-
-pub overflow_add-wide : goal.overflow_add-wide
-overflow_add-wide g c =
-    let ls = g.S.LayoutSet.meaning c.args.set.now in
-    let m = lawful-fields ls c.args.j (g.met.S.LayoutSet.lawful c.args.set.now) in
-    let h = place-within (layout_at ls c.args.j) c.loop-f.i c.in-Some.f (sym c.in-Some.ensures) in
-    omega (arith, c.loop-f.invariant.1, c.in_ok-next.ensures.small)
-
-pub overflow_add-i : goal.overflow_add-i
-overflow_add-i g c =
-    let ls = g.S.LayoutSet.meaning c.args.set.now in
-    let m = lawful-fields ls c.args.j (g.met.S.LayoutSet.lawful c.args.set.now) in
-    let h = place-within (layout_at ls c.args.j) c.loop-f.i c.in-Some.f (sym c.in-Some.ensures) in
-    omega arith
-
-pub loop-f-smaller : goal.loop-f-smaller
-loop-f-smaller g c =
-    let ls = g.S.LayoutSet.meaning c.args.set.now in
-    let h = place-within (layout_at ls c.args.j) c.loop-f.i c.in-Some.f (sym c.in-Some.ensures) in
-    omega arith
-
-pub loop-f-preserved : goal.loop-f-preserved
-loop-f-preserved g c =
-    let l = layout_at (g.S.LayoutSet.meaning c.args.set.now) c.args.j in
-    let rs = c.args.rows.now in
+    let bytes = c.args.values.now.bytes.now in
+    let rs = c.args.values.now.rows.now in
+    let us = c.skip.result.rows.now in
+    let x = shape_of c.from.result in
+    let s = c.in-Some.ensures.steps in
+    let z = c.in_ok-next.next in
+    let e =
+    c.in_ok-next.ensures.size
+    ∙ ap (λ b. sized (length us) (placed (c.in-Some.k + 1) (field_step x b us))) c.skip.ensures.bytes
+    ∙ ap (λ m. sized (length us) (placed (m + 1) (field_step x bytes us))) s.1 in
+    let m = fields-more l bytes rs (c.loop-k.k-iterator.count + 1) c.loop-k.rows c.loop-k.bytes c.loop-k.k-iterator.iter c.in-Some.f c.next.new.self.iter x us s.0 c.from.ensures c.skip.ensures.rows z c.loop-k.invariant.within c.loop-k.invariant.ahead e in
+    let left = ap length s.0 in
+    let next = s.2 in
     let small = c.in_ok-next.ensures.small in
-    let low = c.loop-f.invariant.1 in
-    let m = fields-more l c.args.bytes.now rs c.loop-f.i c.loop-f.used c.loop-f.wide c.in-Some.f (shape_of c.form_of.result) _ (sym c.in-Some.ensures) c.form_of.ensures (take_rest rs c.loop-f.used) c.in_ok-next.next c.loop-f.invariant.2 c.loop-f.invariant.3 c.in_ok-next.ensures.size in
-    (omega arith, omega arith, m.0, m.1)
-
-pub returns : goal.returns
-returns g c =
-    let l = layout_at (g.S.LayoutSet.meaning c.args.set.now) c.args.j in
-    fields-end l c.args.bytes.now c.args.rows.now c.loop-f.i c.loop-f.used c.loop-f.wide c.loop-f.invariant.0 (sym c.in_default.ensures) c.loop-f.invariant.2 c.loop-f.invariant.3
+    let low = c.loop-k.invariant.small in
+    let counted = c.loop-k.invariant.counted in
+    record {
+      counted = omega arith;
+      small = omega arith;
+      within = m.0;
+      ahead = subst (λ k. Ahead (field_steps 1 l bytes rs) (c.loop-k.bytes + z.bytes) (field_steps (k + 1) c.next.new.self.iter bytes (drop (c.loop-k.rows + z.rows) rs))) (sym s.2) m.1;
+    }

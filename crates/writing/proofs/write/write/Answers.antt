@@ -10,8 +10,8 @@ pub returns : goal.returns
 returns g c =
     let ls = g.S.LayoutSet.meaning c.args.set.now in
     let n = c.args.digits in
-    let bytes = c.args.bytes.now in
-    let rs = c.args.rows.now in
+    let bytes = c.args.values.now.bytes.now in
+    let rs = c.args.values.now.rows.now in
     let old = c.args.out.now in
     let a = c.write_line.ensures.answer in
     let m = c.write_line.ensures.memory in

@@ -19,7 +19,7 @@ pub returns-in_default : goal.returns-in_default
 returns-in_default g c =
     let s : State = state c.args.self.now c.args.file.now c.args.rows.now c.args.kept.now in
     let ls = g.S.LayoutSet.meaning c.args.set.now in
-    refuse _ s (draft_refusal 32) (replace-no-line c.args.n s c.in_ok-fits.ensures.tells ls c.args.line.now (not-placed s.file s.fileUsed c.args.n c.in_default.ensures.place))
+    rw c.refused.ensures (refuse _ s (draft_refusal 32) (replace-no-line c.args.n s c.in_ok-fits.ensures.tells ls c.args.line.now (not-placed s.file s.fileUsed c.args.n c.in_default.ensures.place)))
 
 pub returns-in_err-judge : goal.returns-in_err-judge
 returns-in_err-judge g c =

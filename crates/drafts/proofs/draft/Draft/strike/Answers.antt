@@ -18,7 +18,7 @@ returns-in_err-fits c =
 pub returns-in_default : goal.returns-in_default
 returns-in_default c =
     let s : State = state c.args.self.now c.args.file.now c.args.rows.now c.args.kept.now in
-    refuse _ s (draft_refusal 32) (strike-no-line c.args.n s c.in_ok-fits.ensures.tells (not-placed s.file s.fileUsed c.args.n c.in_default.ensures.place))
+    rw c.refused.ensures (refuse _ s (draft_refusal 32) (strike-no-line c.args.n s c.in_ok-fits.ensures.tells (not-placed s.file s.fileUsed c.args.n c.in_default.ensures.place)))
 
 pub returns-in_err-room : goal.returns-in_err-room
 returns-in_err-room c =

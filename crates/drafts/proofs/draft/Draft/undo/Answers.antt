@@ -15,15 +15,16 @@ returns-in_err-fits c =
 pub returns-then-self-eq0 : goal.returns-then-self-eq0
 returns-then-self-eq0 c =
     let s : State = state c.args.self.now c.args.file.now c.args.rows.now c.args.kept.now in
-    refuse _ s (draft_refusal 36)
-    (asked-on _ s c.in_ok-fits.ensures.tells ∙ undo-none (contents s) (length-take-le s.rowsUsed s.rows c.in_ok-fits.ensures.fit.1 ∙ c.if-self-eq0.true))
+    rw c.refused.ensures
+    (refuse _ s (draft_refusal 36)
+    (asked-on _ s c.in_ok-fits.ensures.tells ∙ undo-none (contents s) (length-take-le s.rowsUsed s.rows c.in_ok-fits.ensures.fit.1 ∙ c.if-self-eq0.true)))
 
 pub returns-then-row-self : goal.returns-then-row-self
 returns-then-row-self c =
     let s : State = state c.args.self.now c.args.file.now c.args.rows.now c.args.kept.now in
     let fit = c.in_ok-fits.ensures.fit in
     let some : 0 < s.rowsUsed = omega arith in
-    refuse _ s (draft_refusal 37) (undo-short s c.in_ok-fits.ensures.tells fit.1 fit.2 some c.if-row-self.true)
+    rw c.refused-then-row-self.ensures (refuse _ s (draft_refusal 37) (undo-short s c.in_ok-fits.ensures.tells fit.1 fit.2 some c.if-row-self.true))
 
 pub returns-in_err-self : goal.returns-in_err-self
 returns-in_err-self c =

@@ -1,0 +1,29 @@
+// Why a call on the plain draft is not made.
+use basics::refusal::Reason;
+use std::alloc::{AllocError, AllocFailed};
+
+#[derive(Drop)]
+pub(crate) enum Halt {
+    // The rules refuse it.
+    Refused(Reason),
+    // There is not enough memory.
+    NoMemory(AllocError),
+}
+
+impl From<Reason> for Halt {
+    fn from(reason: Reason) -> Halt {
+        Halt::Refused(reason)
+    }
+}
+
+impl From<AllocError> for Halt {
+    fn from(e: AllocError) -> Halt {
+        Halt::NoMemory(e)
+    }
+}
+
+impl<T: Drop> From<AllocFailed<T>> for Halt {
+    fn from(e: AllocFailed<T>) -> Halt {
+        Halt::NoMemory(AllocError::from(e))
+    }
+}
