@@ -1,4 +1,4 @@
-// The rows of a layout, field by field, against those of another list.
+// The rows of a layout, field by field, against those of another list. Not derived, as in `same`.
 ghost use Rattle.std.specs.Prelude.{◌≡◌};
 ghost use Rattle.layouts.specs.Layouts.{layout_at};
 ghost use Rattle.comparing.specs.Comparing.{same_rows};

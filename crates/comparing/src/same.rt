@@ -1,4 +1,5 @@
-// Rows of one field, against those of another list.
+// Rows of one field, against those of another list. This is not derived: what a row does not use is
+// set aside, and texts are compared where they lie.
 ghost use Rattle.std.specs.Prelude.{◌≡◌};
 ghost use Rattle.values.specs.Forms.{shape_of};
 ghost use Rattle.comparing.specs.Comparing.{same_number, same_text, same_texts, same_block, same_field};

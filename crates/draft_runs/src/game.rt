@@ -84,6 +84,7 @@ impl<'a> Game<'a> {
 }
 
 impl Game<'_> {
+    // Written by hand, as the next: values of two types are compared.
     fn same_total(&self, currency: &[u8], sum: u64) -> bool {
         total(self.set, self.desk.shown(), currency).is_ok_and(|n| n == sum)
     }

@@ -11,6 +11,7 @@ use basics::refusal::{Reason, Refusal};
 use changes::change_row::{ChangeKind, ChangeRow};
 use changes::places::{LinePlace, behind_lines, place_of};
 
+// Memory and its used count are two parameters, as in `moves`.
 // Takes a change back from the used file bytes, and answers how many are used then. `old` is the
 // line that the change kept.
 fn take_back(file: &mut [u8], used: usize, change: ChangeRow, old: &[u8]) -> Result<usize, Refusal>

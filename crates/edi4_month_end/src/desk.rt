@@ -12,6 +12,7 @@ pub(crate) const CHANGES: usize = 16;
 
 pub(crate) const KEPT_BYTES: usize = 4096;
 
+// What a row of the fixed memory holds at first.
 const NO_CHANGE: ChangeRow = ChangeRow {
     kind: 0,
     line: 0,

@@ -25,7 +25,8 @@ const AMOUNT: usize = 2;
 
 const CURRENCY: usize = 3;
 
-// A payment like this line, of another amount and currency. The new currency stands behind the line
+// A payment like this line, of another amount and currency. They are a plain number and plain bytes, as
+// a clerk hands them in: writing is to judge them. The new currency stands behind the line
 // in the bytes that the rows point into.
 pub(crate) fn payment_like(
     heap: Global,

@@ -8,7 +8,8 @@ use files::total::total;
 use std::io;
 use strips::loaded_set::LoadedSet;
 
-// The verdict on a file, and its total in DKK.
+// The verdict on a file, and its total in DKK. `rt` and the set are parameters here and below: a type
+// of both would only be passed in their place.
 fn tell(rt: HostRuntime, set: &LoadedSet, what: &str, bytes: &[u8]) -> io::Result<()> {
     match judge_file(set, bytes) {
         Ok(n) => println!(rt; "{what}: {n} records")?,

@@ -64,8 +64,8 @@ fn lay(stack: &mut RowStack<'_, ValueRow>, row: ValueRow)
 }
 
 impl Cut<'_> {
-    // Puts a row for each of n lines. By index, which each row's place is computed from; the contract
-    // speaks of n.
+    // Puts a row for each of n lines. By number: over `chunks_exact(35)` the contract would have to find
+    // n in the length, and each row's place would need the index all the same.
     fn put_lines(&self, n: usize, stack: &mut RowStack<'_, ValueRow>)
         requires whole { (length self.now.part.now ≡ 35 * n) × (n < 100) }
         requires room { stack.old.used + n ≤ length stack.old.rows.now }

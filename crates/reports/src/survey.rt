@@ -18,6 +18,7 @@ fn note(rows: &mut [FaultRow], place: usize, row: FaultRow)
     let _ = rows::put(rows, place, row);
 }
 
+// The parameters are the loop's own state, which no other call is handed.
 // Judges line n, puts its fault behind the bad ones so far, and answers how many are bad then.
 fn note_line<S: LayoutSet>(
     set: &S,

@@ -20,6 +20,7 @@ fn last_fields(set: &LoadedSet) -> usize {
     fields_of(set, set.layouts()).take(65).count()
 }
 
+// `rt` and the set are parameters here and below: a type of both would only be passed in their place.
 fn tell(rt: HostRuntime, set: &mut LoadedSet, what: &str, strips: &[u8]) -> io::Result<()> {
     match set.load(strips) {
         Ok(()) => println!(rt;

@@ -35,8 +35,8 @@ fn check_row(piece: Piece, field: usize, values: &Values<'_>) -> Result<Size, Re
     })
 }
 
-// Whether the first rows can be written as n lines of a block. By number, and not over the rows,
-// which may run out before.
+// Whether the first rows can be written as n lines of a block. By number: the rows may run out before
+// n, so a loop over them would need a second check behind it.
 fn check_lines(
     texts: TextRule,
     n: usize,

@@ -31,7 +31,7 @@ fn put_row(piece: Piece, values: &Values<'_>, out: &mut [u8]) -> Size
 }
 
 // Writes the first rows as n lines of a block in front of `out`. By number: of memory written through
-// `chunks_mut` the proof does not know afterwards what it holds.
+// `chunks_exact_mut` the proof does not know afterwards what it holds.
 fn put_lines(texts: TextRule, n: usize, values: &Values<'_>, out: &mut [u8])
     requires few { n < 100 }
     requires suits { is_done (line_steps (text_test texts) n values.now.bytes.now values.now.rows.now) ≡ true }
