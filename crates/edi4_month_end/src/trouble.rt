@@ -1,4 +1,4 @@
-// What ends the tour before its time: a refusal, a delivery that cannot be put right, a line that is
+// What ends the month end before its time: a refusal, a delivery that cannot be put right, a line that is
 // not there, or want of memory and what goes wrong outside of the program.
 use basics::refusal::Refusal;
 use drafts::sealed::Unsealed;
