@@ -7,17 +7,6 @@ use Rattle.history.proofs.Shrinking.{undo-shrinks}
 use Rattle.runs.proofs.Bounding.{first-or-later}
 use Rattle.runs.proofs.rewind.rewind.Goals as goal
 
-pub overflow_add-undone : goal.overflow_add-undone
-overflow_add-undone c =
-    let t : State = state c.loop-undone.draft c.loop-undone.file c.args.rows.now c.args.kept.now in
-    let u : State = state c.undo.new.self c.undo.new.file c.args.rows.now c.args.kept.now in
-    let h = c.loop-undone.invariant in
-    let less = undo-shrinks t u c.in-Ok.ensures in
-    let one = less.0 in
-    let all = h.3 in
-    let long = first-or-later c.loop-undone.undone c.loop-undone.draft.rows c.args.draft.now.rows (length c.args.rows.now) all less.1 h.4 in
-    omega arith
-
 pub loop-undone-smaller : goal.loop-undone-smaller
 loop-undone-smaller c =
     let t : State = state c.loop-undone.draft c.loop-undone.file c.args.rows.now c.args.kept.now in
