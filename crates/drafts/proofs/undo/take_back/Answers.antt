@@ -1,22 +1,9 @@
-use Rattle.std.proofs.Common.{◌-◌, ◌<◌, take, sym, ap, ◌∙◌, arith}
+use Rattle.std.proofs.Common.{◌-◌, ◌<◌, sym, ap, ◌∙◌, arith}
 use Rattle.std.proofs.lemmas.List.{length-take-le}
 use Rattle.changes.specs.Kinds.{number_of}
-use Rattle.changes.proofs.InPlace.{placed, not-placed, behind, not_behind}
-use Rattle.changes.proofs.UndoLaws.{unfit, misfits-2, misfits-3-past, taken-1, taken-2, taken-3, stuck-2, stuck-3}
+use Rattle.changes.proofs.InPlace.{placed, behind}
+use Rattle.changes.proofs.UndoLaws.{taken-2, taken-3, stuck-2, stuck-3}
 use Rattle.drafts.proofs.undo.take_back.Goals as goal
-
-pub returns-in_default : goal.returns-in_default
-returns-in_default c =
-    let F = c.args.file.now in
-    let f = take c.args.used F in
-    rw c.refused-in_default.ensures (unfit c.args.change c.args.old.now f F (misfits-2 c.args.change c.args.old.now f (sym c.in-Ok-Replaced.ensures ∙ ap number_of c.in-Ok-Replaced.field-0-is) (not-placed F c.args.used c.args.change.line c.in_default.ensures.place)))
-
-pub returns-in_default-behind_lines : goal.returns-in_default-behind_lines
-returns-in_default-behind_lines c =
-    let F = c.args.file.now in
-    let f = take c.args.used F in
-    let n = not_behind F c.args.used (c.args.change.line - 1) c.in_default-behind_lines.ensures.place in
-    rw c.refused-in_default-behind_lines.ensures (unfit c.args.change c.args.old.now f F (misfits-3-past c.args.change c.args.old.now f (sym c.in-Ok-Struck.ensures ∙ ap number_of c.in-Ok-Struck.field-0-is) (omega arith)))
 
 pub returns-then-old-file : goal.returns-then-old-file
 returns-then-old-file c =
@@ -30,9 +17,6 @@ returns-then-old-file-2 c =
     let some : 0 < c.args.change.line = omega arith in
     let b = behind F c.args.used (c.args.change.line - 1) c.in-Some-behind_lines.at c.in-Some-behind_lines.ensures.place in
     rw c.refused-then-old-file-2.ensures (stuck-3 c.args.change c.args.old.now F c.args.used c.requires c.in-Some-behind_lines.at (sym c.in-Ok-Struck.ensures ∙ ap number_of c.in-Ok-Struck.field-0-is) some b c.if-old-file-2.true)
-
-pub returns-else-change-used : goal.returns-else-change-used
-returns-else-change-used c = taken-1 c.args.change c.args.old.now c.args.file.now c.args.used c.requires (sym c.in-Ok-AtTheEnd.ensures ∙ ap number_of c.in-Ok-AtTheEnd.field-0-is) c.if-change-used.false
 
 pub returns-else-old-file : goal.returns-else-old-file
 returns-else-old-file c =

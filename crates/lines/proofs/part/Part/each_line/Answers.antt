@@ -1,26 +1,10 @@
-use Rattle.std.proofs.Common.{◌≡◌, ℕ, ◌+◌, ◌-◌, ◌*◌, ◌<◌, length, Err, sym, ap, ◌∙◌, arith, length-append}
-use Rattle.std.specs.Slice.Iter.{chunks_exact_rest, chunks_exact_size}
+use Rattle.std.proofs.Common.{◌≡◌, ◌+◌, ◌-◌, ◌*◌, ◌<◌, length, Err, sym, ap, ◌∙◌, arith, length-append}
+use Rattle.std.specs.Slice.Iter.{chunks_exact_rest}
 use Rattle.basics.specs.Refusals.{refusal}
 use Rattle.lines.specs.Rules.{text_test}
 use Rattle.lines.specs.Judging.{each_line}
 use Rattle.lines.proofs.Steps.{line-wrong, line-right}
 use Rattle.lines.proofs.part.Part.each_line.Goals as goal
-
-pub loop-k-init : goal.loop-k-init
-loop-k-init c =
-    let it = c.into_iter-k-iterator.ensures.into_iter_gives in
-    let from = ap (λ x. x.iter) it ∙ c.enumerate-k-items.ensures.source in
-    let none = ap (λ x. x.count) it ∙ c.enumerate-k-items.ensures.count in
-    let rest = ap chunks_exact_rest from ∙ c.chunks_exact.ensures.rest in
-    let long = ap length rest in
-    let size = ap chunks_exact_size from ∙ c.chunks_exact.ensures.size in
-    let whole : (n : ℕ) → n - c.into_iter-k-iterator.result.count ≡ n = λ n. omega arith in
-    let at : c.args.self.now.place + 35 * c.into_iter-k-iterator.result.count ≡ c.args.self.now.place = omega arith in
-    record {
-      size = size;
-      left = omega arith;
-      same = λ n h j. each_line (text_test c.args.rule) (whole n j) c.args.self.now.field (at j) (rest j);
-    }
 
 pub loop-k-preserved : goal.loop-k-preserved
 loop-k-preserved c =
