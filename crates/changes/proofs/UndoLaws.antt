@@ -1,6 +1,6 @@
 -- What undo answers, way by way.
-use Rattle.std.proofs.Common.{◌≡◌, ℕ, ◌+◌, ◌-◌, ◌<◌, ◌≤◌, Bool, true, false, cond, ◌&&◌, eqb, leb, List, [], ◌∷◌, ◌++◌, length, get_or, take, drop, Ok, Err, sym, refl, ap, ◌∙◌, ⊎_elim, append_assoc, arith, length-append, length-drop, get_or-take}
-use Rattle.std.proofs.lemmas.List.{length-take-le, take_at, drop_at, take-take, drop-take}
+use Rattle.std.proofs.Common.{◌≡◌, ℕ, ◌+◌, ◌-◌, ◌<◌, ◌≤◌, Bool, true, false, cond, ◌&&◌, eqb, leb, List, [], ◌∷◌, ◌++◌, length, get_or, take, drop, Ok, Err, sym, refl, ap, ◌∙◌, ⊎_elim, arith, length-append, length-drop, get_or-take}
+use Rattle.std.proofs.lemmas.List.{length-take-le, take-take, drop-take}
 use Rattle.std.proofs.lemmas.Bool.{ne_eqb, eq-eqb, le-leb, lt-leb, and_left, and_right, and_from, cond-true, cond-false, cases_Bool}
 use Rattle.basics.specs.declared.refusal.Refusal.{Refusal}
 use Rattle.files.specs.Lines.{lines_of}
@@ -122,21 +122,13 @@ module _ (r : ChangeRow) (old F : List ℕ) (used : ℕ) (fits : used ≤ length
       let a = b.place in
       omega (arith, ap length (inserted-at r.line at (take used F) old b.place), length-spliced (take used F) at 0 (ended old) (omega arith), length-append old (13 ∷ 10 ∷ []), length-take-le used F fits)
 
-  -- the line end goes in first, then the line before it
-  pub taken-3 : (at mid end : ℕ) (M G : List ℕ) → r.kind ≡ 3 → 0 < r.line → BehindAt (r.line - 1) at (take used F) → take mid M ≡ spliced (take used F) at 0 (13 ∷ 10 ∷ []) → take end G ≡ spliced (take mid M) at 0 old → end ≤ length F → length G ≡ length F → TakenBack r old (take used F) F G end
-  taken-3 at mid end M G e k b h j w l =
+  pub taken-3 : (at end : ℕ) (G : List ℕ) → r.kind ≡ 3 → 0 < r.line → BehindAt (r.line - 1) at (take used F) → take end G ≡ take at (take used F) ++ (ended old ++ drop at (take used F)) → end ≤ length F → length G ≡ length F → TakenBack r old (take used F) F G end
+  taken-3 at end G e k b h w l =
       let f = take used F in
-      let crlf : List ℕ = 13 ∷ 10 ∷ [] in
-      let i = span-within (r.line - 1) f in
-      let a = b.place in
       let there = b.there in
-      let front : length (take at f) ≡ at = length-take-le at f (omega arith) in
-      let z : at + 0 ≡ at = omega arith in
-      let low : take at (take mid M) ≡ take at f = ap (take at) h ∙ take_at (take at f) (crlf ++ drop (at + 0) f) at front in
-      let high : drop (at + 0) (take mid M) ≡ crlf ++ drop (at + 0) f = ap (λ n. drop n (take mid M)) z ∙ ap (drop at) h ∙ drop_at (take at f) (crlf ++ drop (at + 0) f) at front in
-      let both : spliced (take mid M) at 0 old ≡ spliced f at 0 (ended old) =
-      (λ q. low q ++ (old ++ high q)) ∙ ap (λ x. take at f ++ x) (sym (append_assoc old crlf (drop (at + 0) f))) in
-      let is : take end G ≡ file_before r old f = j ∙ both ∙ inserted-at r.line at f old b.place ∙ sym (before-3 r old f e) in
+      let z : at ≡ at + 0 = omega arith in
+      let is : take end G ≡ file_before r old f =
+      h ∙ ap (λ n. take at f ++ (ended old ++ drop n f)) z ∙ inserted-at r.line at f old b.place ∙ sym (before-3 r old f e) in
       record {
         fits = fits-3 r old f e k (omega arith);
         room = omega (arith, ap length is, length-take-le end G (omega arith));

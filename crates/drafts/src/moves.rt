@@ -1,6 +1,7 @@
 // Bytes put and moved in lent memory. The memory is the caller's and the count of used bytes the
 // draft's, so no type holds both.
 ghost use Rattle.std.specs.Prelude.{◌≡◌, ◌+◌, ◌≤◌, ◌++◌, length, take, drop};
+ghost use Rattle.changes.specs.Edits.{ended};
 
 // Puts bytes behind the used ones, and answers how many are used then.
 pub(crate) fn append(memory: &mut [u8], used: usize, bytes: &[u8]) -> usize
@@ -26,4 +27,19 @@ pub(crate) fn splice(memory: &mut [u8], used: usize, at: usize, gone: usize, byt
     memory.copy_within(at + gone..used, end);
     memory[at..end].copy_from_slice(bytes);
     end + (used - (at + gone))
+}
+
+// Puts a line with its line end in between the used bytes at `at`, moves what is behind along once,
+// and answers how many are used then.
+pub(crate) fn insert_line(memory: &mut [u8], used: usize, at: usize, line: &[u8]) -> usize
+    requires inside { at ≤ used }
+    requires room { used + (length line.now + 2) ≤ length memory.old }
+    ensures used { result ≡ used + (length line.now + 2) }
+    ensures holds { take result memory.new ≡ take at (take used memory.old) ++ (ended line.now ++ drop at (take used memory.old)) }
+{
+    let end = at + line.len();
+    memory.copy_within(at..used, end + 2);
+    memory[at..end].copy_from_slice(line);
+    memory[end..end + 2].copy_from_slice(b"\r\n");
+    used + line.len() + 2
 }

@@ -5,7 +5,7 @@ ghost use Rattle.drafts.specs.Drafts.{Meets};
 ghost use Rattle.changes.specs.Backs.{TakenBack, Stuck};
 
 use crate::draft::Draft;
-use crate::moves::splice;
+use crate::moves::{insert_line, splice};
 use crate::refusals::refused;
 use basics::refusal::{Reason, Refusal};
 use changes::change_row::{ChangeKind, ChangeRow};
@@ -45,8 +45,7 @@ fn take_back(file: &mut [u8], used: usize, change: ChangeRow, old: &[u8]) -> Res
             if old.len() + 2 > file.len() - used {
                 return Err(refused(Reason::NoFileRoom));
             }
-            let end = splice(file, used, at, 0, b"\r\n");
-            Ok(splice(file, end, at, 0, old))
+            Ok(insert_line(file, used, at, old))
         }
         Err(_) => Err(refused(Reason::RowDoesNotFit)),
     }

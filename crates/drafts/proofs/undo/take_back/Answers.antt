@@ -36,6 +36,5 @@ returns-else-old-file-2 c =
     let some : 0 < c.args.change.line = omega arith in
     let b = behind F u (c.args.change.line - 1) c.in-Some-behind_lines.at c.in-Some-behind_lines.ensures.place in
     let room = c.if-old-file-2.false in
-    let mid = c.splice-end.ensures.used in
-    let end = c.splice-in-Ok-Struck.ensures.used in
-    taken-3 c.args.change c.args.old.now F u c.requires c.in-Some-behind_lines.at c.splice-end.result c.splice-in-Ok-Struck.result c.splice-end.new.memory c.splice-in-Ok-Struck.new.memory (sym c.in-Ok-Struck.ensures ∙ ap number_of c.in-Ok-Struck.field-0-is) some b c.splice-end.ensures.holds c.splice-in-Ok-Struck.ensures.holds (omega arith) (omega arith)
+    let end = c.insert_line.ensures.used in
+    taken-3 c.args.change c.args.old.now F u c.requires c.in-Some-behind_lines.at c.insert_line.result c.insert_line.new.memory (sym c.in-Ok-Struck.ensures ∙ ap number_of c.in-Ok-Struck.field-0-is) some b c.insert_line.ensures.holds (omega arith) (omega arith)
