@@ -5,6 +5,7 @@
 mod desk;
 mod foreign_rows;
 mod full;
+mod kinds;
 mod lengths;
 mod own_places;
 mod refused;
@@ -39,5 +40,9 @@ fn main(rt: HostRuntime) -> io::Result<()> {
     if set.load(b"U99900PVU99901PVL0002").is_err() {
         return println!(rt; "the wide set is not loaded");
     }
-    lengths::lengths(rt, &set)
+    lengths::lengths(rt, &set)?;
+    if set.load(b"U99900PVU99902R0002PVQ003DW02").is_err() {
+        return println!(rt; "the set of other kinds is not loaded");
+    }
+    kinds::kinds(rt, &set)
 }

@@ -21,7 +21,7 @@ const BAD_LINES: [(&str, &[u8]); 11] = [
 ];
 
 // Each of these bytes in the call that `call` makes of them.
-fn each<'a, F: Fn(&'a [u8]) -> Call<'a>>(
+pub(crate) fn each<'a, F: Fn(&'a [u8]) -> Call<'a>>(
     desk: &mut Desk<'_>,
     how: &str,
     cases: &[(&str, &'a [u8])],
@@ -45,8 +45,9 @@ fn delivery_of(heap: Global, line: &[u8]) -> Result<Vec<u8>, AllocError> {
     Ok(bytes)
 }
 
-fn delivered(desk: &mut Desk<'_>) -> io::Result<()> {
-    for (what, line) in BAD_LINES {
+// A delivery in which each of these lines is the second.
+pub(crate) fn delivered(desk: &mut Desk<'_>, cases: &[(&str, &[u8])]) -> io::Result<()> {
+    for (what, line) in cases {
         let delivery = delivery_of(desk.rt.alloc(), line)?;
         print!(desk.rt; "import with ")?;
         desk.step(what, Call::Import(&delivery))?;
@@ -106,7 +107,7 @@ pub(crate) fn refused(rt: HostRuntime, set: &LoadedSet) -> io::Result<()> {
         |line| Call::Replace(2, line),
     )?;
     println!(rt; "Refused deliveries")?;
-    delivered(&mut desk)?;
+    delivered(&mut desk, &BAD_LINES)?;
     each(&mut desk, "import", &BAD_DELIVERIES, Call::Import)?;
     long_deliveries(&mut desk)?;
     println!(rt; "Refused numbers")?;

@@ -3,7 +3,7 @@ use crate::chance::{Chance, Kind, Wish};
 use crate::desk::{Desk, Sizes};
 use crate::halt::Halt;
 use crate::plain::Plain;
-use basics::refusal::Reason;
+use basics::refusal::{Layer, Reason, Refusal};
 use files::total::total;
 use std::alloc::{AllocError, Global};
 use strips::loaded_set::LoadedSet;
@@ -116,13 +116,13 @@ impl Game<'_> {
         let before = self.desk.memory.clone()?;
         let expected = match self.plain.call(wish.call()) {
             Ok(()) => Ok(()),
-            Err(Halt::Refused(reason)) => Err(reason),
+            Err(Halt::Refused(e)) => Err(e),
             Err(Halt::NoMemory(e)) => return Err(e),
         };
-        let answer = self.desk.call(self.set, wish.call()).map_err(|e| e.reason);
+        let answer = self.desk.call(self.set, wish.call());
         match answer {
             Ok(()) => note(&mut self.tally.accepted, wish.kind)?,
-            Err(reason) => note(&mut self.tally.refused, reason)?,
+            Err(e) => note(&mut self.tally.refused, e.reason)?,
         }
         let unaltered = answer.is_ok() || self.desk.memory == before;
         self.tally.calls = self.tally.calls.saturating_add(1);
@@ -145,7 +145,7 @@ impl Game<'_> {
     pub(crate) fn goes_back(&mut self) -> bool {
         let end = self.desk.rewind();
         end.undone == self.plain.before.len()
-            && end.refusal.reason == Reason::NothingToUndo
+            && end.refusal == Refusal::new(Reason::NothingToUndo, Layer::Drafts)
             && self.desk.shown().is_empty()
     }
 }

@@ -1,18 +1,25 @@
 // Why a call on the plain draft is not made.
-use basics::refusal::Reason;
+use basics::refusal::{Layer, Reason, Refusal};
 use std::alloc::{AllocError, AllocFailed};
 
 #[derive(Drop)]
 pub(crate) enum Halt {
     // The rules refuse it.
-    Refused(Reason),
+    Refused(Refusal),
     // There is not enough memory.
     NoMemory(AllocError),
 }
 
+impl From<Refusal> for Halt {
+    fn from(e: Refusal) -> Halt {
+        Halt::Refused(e)
+    }
+}
+
+// A draft's own reasons name no place.
 impl From<Reason> for Halt {
     fn from(reason: Reason) -> Halt {
-        Halt::Refused(reason)
+        Halt::Refused(Refusal::new(reason, Layer::Drafts))
     }
 }
 

@@ -1,57 +1,118 @@
-// Lines and deliveries by the rules alone, with nothing of the library but the names of its reasons.
-use basics::refusal::Reason;
+// Lines and deliveries by the rules alone, with nothing of the library but its refusals.
+use basics::refusal::{Layer, Reason, Refusal};
 use std::alloc::{AllocError, Global};
 
-fn all_digits(part: &[u8]) -> bool {
-    part.iter().all(|b| b.is_ascii_digit())
+// Which bytes a part may have.
+#[derive(Clone, Copy)]
+enum Class {
+    Digits,
+    Capitals,
+    Texts,
 }
 
-fn is_text(b: u8) -> bool {
-    matches!(b, 32..=126 | 160..=255)
+impl Class {
+    fn allows(self, b: u8) -> bool {
+        match self {
+            Class::Digits => b.is_ascii_digit(),
+            Class::Capitals => b.is_ascii_uppercase(),
+            Class::Texts => matches!(b, 32..=126 | 160..=255),
+        }
+    }
 }
 
-// The first so many bytes, and those behind them.
-fn cut(line: &[u8], n: usize) -> Result<(&[u8], &[u8]), Reason> {
-    line.split_at_checked(n).ok_or(Reason::LineEndsEarly)
+// What is left of a line, in which field it begins, and at which byte of the line.
+#[derive(Clone, Copy)]
+struct Left<'a> {
+    bytes: &'a [u8],
+    field: usize,
+    byte: usize,
 }
 
-fn required(holds: bool, reason: Reason) -> Result<(), Reason> {
-    if holds { Ok(()) } else { Err(reason) }
-}
+impl<'a> Left<'a> {
+    // A fault so many bytes behind the first that is left.
+    fn fault(self, reason: Reason, behind: usize) -> Refusal {
+        Refusal::new(reason, Layer::Lines)
+            .in_field(self.field)
+            .at_byte(self.byte.saturating_add(behind))
+    }
 
-// A block of at most two lines, and what stands behind it.
-fn behind_block(part: &[u8]) -> Result<&[u8], Reason> {
-    let (count, rest) = cut(part, 2)?;
-    required(all_digits(count), Reason::ForbiddenByte)?;
-    let size = match count {
-        b"00" => 0,
-        b"01" => 35,
-        b"02" => 70,
-        _ => return Err(Reason::OutOfBounds),
-    };
-    let (text, rest) = cut(rest, size)?;
-    required(text.iter().all(|b| is_text(*b)), Reason::ForbiddenByte)?;
-    Ok(rest)
+    fn cut(self, n: usize) -> Result<(&'a [u8], Left<'a>), Refusal> {
+        let short = self.fault(Reason::LineEndsEarly, self.bytes.len());
+        let (part, bytes) = self.bytes.split_at_checked(n).ok_or(short)?;
+        let byte = self.byte.saturating_add(n);
+        Ok((
+            part,
+            Left {
+                bytes,
+                byte,
+                ..self
+            },
+        ))
+    }
+
+    // Cuts n bytes off, all of one class.
+    fn cut_all(self, n: usize, class: Class) -> Result<(&'a [u8], Left<'a>), Refusal> {
+        let (part, left) = self.cut(n)?;
+        match part.iter().position(|b| !class.allows(*b)) {
+            Some(i) => Err(self.fault(Reason::ForbiddenByte, i)),
+            None => Ok((part, left)),
+        }
+    }
+
+    // The same bytes, as those of the next field.
+    fn next(self) -> Left<'a> {
+        Left {
+            field: self.field.saturating_add(1),
+            ..self
+        }
+    }
+
+    // What stands behind a block of at most two lines.
+    fn behind_block(self) -> Result<Left<'a>, Refusal> {
+        let (count, left) = self.cut_all(2, Class::Digits)?;
+        let size = match count {
+            b"00" => 0,
+            b"01" => 35,
+            b"02" => 70,
+            _ => return Err(self.fault(Reason::OutOfBounds, 0)),
+        };
+        let (_, behind) = left.cut_all(size, Class::Texts)?;
+        Ok(behind)
+    }
 }
 
 // A line's first fault. The wide set has UBT99901 too.
-pub(crate) fn check_line(wide: bool, line: &[u8]) -> Result<(), Reason> {
-    let (letters, rest) = cut(line, 3)?;
-    let (digits, rest) = cut(rest, 5)?;
+pub(crate) fn check_line(wide: bool, line: &[u8]) -> Result<(), Refusal> {
+    let start = Left {
+        bytes: line,
+        field: 1,
+        byte: 1,
+    };
+    let (letters, left) = start.cut(3)?;
+    let (digits, left) = left.cut(5)?;
     let has_block = match digits {
         b"99900" => false,
         b"99901" if wide => true,
-        _ => return Err(Reason::UnknownRecord),
+        _ => return Err(start.fault(Reason::UnknownRecord, 0)),
     };
-    required(matches!(letters, b"UBT"), Reason::ForbiddenByte)?;
-    let (amount, rest) = cut(rest, 15)?;
-    required(all_digits(amount), Reason::ForbiddenByte)?;
-    required(amount.iter().any(|b| *b != b'0'), Reason::AmountZero)?;
-    let (currency, rest) = cut(rest, 3)?;
-    let capitals = currency.iter().all(|b| b.is_ascii_uppercase());
-    required(capitals, Reason::ForbiddenByte)?;
-    let rest = if has_block { behind_block(rest)? } else { rest };
-    required(rest.is_empty(), Reason::BytesLeftOver)
+    if let Some(i) = letters.iter().zip(b"UBT").position(|(b, c)| b != c) {
+        return Err(start.fault(Reason::ForbiddenByte, i));
+    }
+    let amount = left.next();
+    let (digits, left) = amount.cut_all(15, Class::Digits)?;
+    if digits.iter().all(|b| *b == b'0') {
+        return Err(amount.fault(Reason::AmountZero, 0));
+    }
+    let (_, left) = left.next().cut_all(3, Class::Capitals)?;
+    let left = if has_block {
+        left.next().behind_block()?
+    } else {
+        left
+    };
+    if !left.bytes.is_empty() {
+        return Err(left.next().fault(Reason::BytesLeftOver, 0));
+    }
+    Ok(())
 }
 
 // What a good line pays in a currency.
@@ -90,12 +151,20 @@ pub(crate) fn cut_lines(heap: Global, bytes: &[u8]) -> Result<Cutting, AllocErro
 }
 
 // A delivery's first fault.
-pub(crate) fn check_delivery(wide: bool, bytes: &[u8], cutting: &Cutting) -> Result<(), Reason> {
-    required(!bytes.is_empty(), Reason::EmptyFile)?;
-    required(cutting.rest.is_empty(), Reason::UnendedLine)?;
-    required(cutting.lines.len() <= 1200, Reason::TooManyLines)?;
-    for line in &cutting.lines {
-        check_line(wide, line)?;
+pub(crate) fn check_delivery(wide: bool, bytes: &[u8], cutting: &Cutting) -> Result<(), Refusal> {
+    let lines = cutting.lines.len();
+    if bytes.is_empty() {
+        return Err(Refusal::new(Reason::EmptyFile, Layer::Files));
+    }
+    if !cutting.rest.is_empty() {
+        let line = lines.saturating_add(1);
+        return Err(Refusal::new(Reason::UnendedLine, Layer::Files).in_line(line));
+    }
+    if lines > 1200 {
+        return Err(Refusal::new(Reason::TooManyLines, Layer::Files).in_line(1201));
+    }
+    for (i, line) in cutting.lines.iter().enumerate() {
+        check_line(wide, line).map_err(|e| e.in_line(i.saturating_add(1)))?;
     }
     Ok(())
 }
