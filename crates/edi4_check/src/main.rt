@@ -1,8 +1,7 @@
 // Reads a file from standard input, judges it against the built-in set and prints the report.
 #![tactic(auto)]
 
-use layouts::built_in::BuiltIn;
-use reports::report::report;
+use edi4::{BuiltIn, report};
 use std::io;
 use std::io::{Read, Write};
 

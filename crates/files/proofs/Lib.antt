@@ -3,3 +3,4 @@ pub mod Counting
 pub mod FileLaws
 pub mod Sums
 pub mod FirstLines
+pub mod Finding
