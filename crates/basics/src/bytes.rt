@@ -44,11 +44,11 @@ fn allows_all(class: ByteClass, part: &[u8]) -> bool
 }
 
 // The index of the first byte that the class has not. By rule a loop over the bytes with their index,
-// but most parts have no such byte.
+// but most parts have no such byte, and short ones gain nothing by looking at all bytes first.
 pub fn first_forbidden(class: ByteClass, part: &[u8]) -> Option<usize>
     ensures { result ≡ first_forbidden (anywhere (allowed class)) 0 part.now }
 {
-    if allows_all(class, part) {
+    if part.len() >= 8 && allows_all(class, part) {
         return None;
     }
     for (k, b) in part.iter().enumerate() {

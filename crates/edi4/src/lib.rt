@@ -1,6 +1,8 @@
 // The library's face: what a program needs of it, under one name. C programs link `edi4_c`.
 #![tactic(auto)]
 
+mod examples;
+
 // Amounts, days, currencies, refusals, and how they are printed.
 pub use basics::calendar::Day;
 pub use basics::money::{Amount, Currency, Hundredths};
@@ -43,3 +45,6 @@ pub use drafts::sealed::{Sealed, Unsealed};
 pub use runs::call::{Call, play};
 pub use runs::replay::{Replayed, replay};
 pub use runs::rewind::{Rewound, rewind};
+
+// The worked examples as a theorem.
+pub use crate::examples::worked_examples_hold;

@@ -1,13 +1,13 @@
 -- Single steps of the judging definitions, as the code takes them.
-use Rattle.std.proofs.Common.{◌≡◌, ℕ, zero, suc, ◌+◌, ◌-◌, ◌<◌, ◌≤◌, Bool, true, false, cond, eqb, ltb, List, [], ◌∷◌, ◌++◌, length, get_or, take, drop, replicate, Some, None, Ok, Err, Option, Result, unwrap_or, sym, refl, ap, ◌∙◌, zero-add, arith}
+use Rattle.std.proofs.Common.{◌≡◌, ℕ, zero, suc, ◌+◌, ◌-◌, ◌<◌, ◌≤◌, Bool, true, false, cond, ◌&&◌, eqb, leb, ltb, List, [], ◌∷◌, ◌++◌, length, get_or, take, drop, replicate, Some, None, Ok, Err, Result, sym, refl, ap, ◌∙◌, zero-add, arith}
 use Rattle.std.proofs.lemmas.List.{take_at, drop_at, get_or-replicate, length-replicate}
-use Rattle.std.proofs.lemmas.Bool.{le-ltb}
+use Rattle.std.proofs.lemmas.Bool.{le-ltb, and_parts}
 use Rattle.basics.specs.declared.bytes.ByteClass.TheVariants as class
 use Rattle.basics.specs.declared.refusal.Refusal.{Refusal}
 use Rattle.basics.specs.Refusals.{refusal}
-use Rattle.basics.specs.Bytes.{allowed, anywhere, these, first_forbidden}
+use Rattle.basics.specs.Bytes.{allowed, all, anywhere, these, first_forbidden}
 use Rattle.basics.specs.Decimals.{number_of, value_of}
-use Rattle.basics.proofs.ByteLaws.{same-forbidden, none-all}
+use Rattle.basics.proofs.ByteLaws.{absurd-none, same_some, same-forbidden, none-all, all-at, none-of-clean}
 use Rattle.basics.proofs.DigitLaws.{value-some}
 use Rattle.layouts.specs.Kinds.{constant, figures, letters, any_text, count, block}
 use Rattle.lines.specs.Judging.{and_then, unforbidden, cleaned, part_in, part_end, numbered, cut, each_line, lines_end, field_end}
@@ -41,15 +41,31 @@ filler b w i p s h =
     ∙ sym (then_ok (cleaned (these (replicate w b)) i p s))
 
 -- the number of clean digits
-pub number_is : (i p : ℕ) (s : List ℕ) (e n : ℕ) (o : Option ℕ) → cleaned (anywhere (allowed class.Digit)) i p s ≡ Ok e → length s ≤ 19 → o ≡ value_of s → n ≡ unwrap_or o 0 → n ≡ number_of s
-number_is i p s e n o h l v is =
-    is ∙ ap (λ x. unwrap_or x 0) (v ∙ value-some s l (none-all (allowed class.Digit) 0 s (cleaned-ok (anywhere (allowed class.Digit)) i p s e h).0))
+-- digits that show a number are clean, and show it
+pub digits-found : (i p : ℕ) (s : List ℕ) (n : ℕ) → Some n ≡ value_of s → Ok n ≡ and_then (cleaned (anywhere (allowed class.Digit)) i p s) (λ e. Ok (number_of s))
+digits-found i p s n v =
+    elim (leb (length s) 19 && all (allowed class.Digit) s) as (λ t. (leb (length s) 19 && all (allowed class.Digit) s) ≡ t → Some n ≡ cond t (Some (number_of s)) None → Ok n ≡ and_then (cleaned (anywhere (allowed class.Digit)) i p s) (λ e. Ok (number_of s))) [
+      | true ↦ λ h w.
+          let every = (and_parts (leb (length s) 19) (all (allowed class.Digit) s) h).1 in
+          let none = none-of-clean (anywhere (allowed class.Digit)) s (λ j l. all-at (allowed class.Digit) s j every l) in
+          ap Ok (same_some w) ∙ sym (ap (λ o. and_then (unforbidden o i p (p + length s)) (λ e. Ok (number_of s))) none)
+      | false ↦ λ h w. absurd-none (sym w)
+    ]
+    refl v
 
-pub numbered-at : (ok : ℕ → Bool) (n i p : ℕ) (s : List ℕ) (e m : ℕ) (t : Bool) → cleaned (anywhere (allowed class.Digit)) i p s ≡ Ok e → m ≡ number_of s → ok m ≡ t → numbered ok n i p s ≡ cond t (Ok m) (Err (refusal n 2 0 i (p + 1)))
-numbered-at ok n i p s e m t h is passes =
-    ap (λ r. and_then r (λ e. cond (ok (number_of s)) (Ok (number_of s)) (Err (refusal n 2 0 i (p + 1))))) h
-    ∙ ap (λ x. cond (ok x) (Ok x) (Err (refusal n 2 0 i (p + 1)))) (sym is)
-    ∙ ap (λ b. cond b (Ok m) (Err (refusal n 2 0 i (p + 1)))) passes
+-- clean digits do show a number
+pub digits-shown : {A : Type 0} (i p : ℕ) (s : List ℕ) (e : ℕ) → length s ≤ 19 → None ≡ value_of s → cleaned (anywhere (allowed class.Digit)) i p s ≡ Ok e → A
+digits-shown i p s e l v h = absurd-none (v ∙ value-some s l (none-all (allowed class.Digit) 0 s (cleaned-ok (anywhere (allowed class.Digit)) i p s e h).0))
+
+pub numbered-at : (ok : ℕ → Bool) (n i p : ℕ) (s : List ℕ) (m : ℕ) (t : Bool) → Ok m ≡ and_then (cleaned (anywhere (allowed class.Digit)) i p s) (λ e. Ok (number_of s)) → ok m ≡ t → numbered ok n i p s ≡ cond t (Ok m) (Err (refusal n 2 0 i (p + 1)))
+numbered-at ok n i p s m t h passes =
+    elim (cleaned (anywhere (allowed class.Digit)) i p s) as (λ r. Ok m ≡ and_then r (λ e. Ok (number_of s)) → and_then r (λ e. cond (ok (number_of s)) (Ok (number_of s)) (Err (refusal n 2 0 i (p + 1)))) ≡ cond t (Ok m) (Err (refusal n 2 0 i (p + 1)))) [
+      | Ok e ↦ λ g.
+          let is : m ≡ number_of s = same_ok g in
+          ap (λ x. cond (ok x) (Ok x) (Err (refusal n 2 0 i (p + 1)))) (sym is) ∙ ap (λ b. cond b (Ok m) (Err (refusal n 2 0 i (p + 1)))) passes
+      | Err e ↦ λ g. absurd-err (sym g)
+    ]
+    h
 
 pub part-figures : (w : ℕ) (ok : ℕ → Bool) (n i p : ℕ) (s : List ℕ) → part_in (figures w ok n) i p s ≡ and_then (numbered ok n i p s) (λ m. Ok (p + length s))
 part-figures w ok n i p s =

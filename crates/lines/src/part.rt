@@ -1,11 +1,13 @@
 // One part of a field: its bytes may stand where they do, and its value passes.
-ghost use Rattle.std.specs.Prelude.{◌≡◌, ℕ, ◌+◌, ◌*◌, ◌^◌, ◌<◌, ◌≤◌, not, ◌==◌, length, position};
+ghost use Rattle.std.specs.Prelude.{◌≡◌, ℕ, Ok, ◌+◌, ◌*◌, ◌^◌, ◌<◌, ◌≤◌, not, ◌==◌, length, position};
 ghost use Rattle.std.specs.List.{zip};
 ghost use Rattle.basics.specs.declared.refusal.Layer as Layer;
+ghost use Rattle.basics.specs.declared.bytes.ByteClass.TheVariants as class;
 ghost use Rattle.basics.specs.Bytes.{allowed, anywhere};
+ghost use Rattle.basics.specs.Decimals.{number_of};
 ghost use Rattle.layouts.specs.Kinds.{constant, figures, letters};
 ghost use Rattle.lines.specs.Rules.{number_test, number_refusal, text_test};
-ghost use Rattle.lines.specs.Judging.{cleaned, part_in, numbered, each_line, lines_in};
+ghost use Rattle.lines.specs.Judging.{and_then, cleaned, part_in, numbered, each_line, lines_in};
 
 use crate::rules::{NumberRule, TextRule};
 use basics::bytes::{ByteClass, first_forbidden};
@@ -76,13 +78,25 @@ impl Part<'_> {
         }
     }
 
+    // The number of a part of digits. Most parts are digits: only where they are not is the first
+    // other byte looked for.
+    fn digits(&self) -> Result<u64, Refusal>
+        requires { length self.now.bytes.now ≤ 19 }
+        ensures { result ≡ and_then (cleaned (anywhere (allowed class.Digit)) self.now.field self.now.place self.now.bytes.now) (λ e. Ok (number_of self.now.bytes.now)) }
+    {
+        if let Some(n) = decimal::value(self.bytes) {
+            return Ok(n);
+        }
+        self.clean(ByteClass::Digit)?;
+        Ok(0)
+    }
+
     // The number of a part of digits that is to keep a rule.
     pub(crate) fn number(&self, rule: NumberRule) -> Result<u64, Refusal>
         requires { length self.now.bytes.now ≤ 19 }
         ensures { result ≡ numbered (number_test rule) (number_refusal rule) self.now.field self.now.place self.now.bytes.now }
     {
-        self.clean(ByteClass::Digit)?;
-        let n = decimal::value(self.bytes).unwrap_or(0);
+        let n = self.digits()?;
         if !rule.passes(n) {
             return Err(self.fault_at(rule.reason(), 0));
         }
