@@ -1,5 +1,5 @@
 -- Laws of counting and judging lines.
-use Rattle.std.proofs.Common.{◌≡◌, ℕ, ◌+◌, ◌-◌, ◌<◌, ◌≤◌, cond, ltb, List, [], ◌∷◌, length, None, Ok, Err, Result, ap, ◌∙◌, arith, length-append, length-drop}
+use Rattle.std.proofs.Common.{◌≡◌, ℕ, ◌+◌, ◌-◌, ◌<◌, ◌≤◌, cond, ltb, List, [], ◌∷◌, length, None, Ok, Err, Result, refl, ap, ◌∙◌, arith, length-append, length-drop}
 use Rattle.std.proofs.lemmas.Bool.{lt-ltb, le-ltb}
 use Rattle.basics.specs.declared.refusal.Refusal.{Refusal}
 use Rattle.basics.specs.Refusals.{refusal}
@@ -48,3 +48,8 @@ module _ (f l t : List ℕ) (h : FirstLine f l t) (ls : List (List Field)) (n c 
 
 pub judge-last : (f : List ℕ) → line_end f ≡ None → (ls : List (List Field)) (n c : ℕ) → line_by_line ls n (lines_of f) c ≡ Ok c
 judge-last f e ls n c = ap (λ x. line_by_line ls n x c) (no_lines f e)
+
+-- where no line has a fault, the verdict is the count
+pub judged-count : (r : Result ℕ Refusal) (k : ℕ → Result ℕ Refusal) → ((n : ℕ) → k n ≡ Ok n) → and_then r k ≡ r
+judged-count (Ok n) k h = h n
+judged-count (Err e) k h = refl

@@ -1,7 +1,8 @@
 // A file is judged whole: at most 1,200 records, each with CR LF behind it.
-ghost use Rattle.std.specs.Prelude.{◌≡◌, ℕ, List, length, Ok, Err};
+ghost use Rattle.std.specs.Prelude.{◌≡◌, ◌+◌, ℕ, List, length, Ok, Err};
 ghost use Rattle.lines.specs.Judging.{judged};
 ghost use Rattle.basics.specs.declared.refusal.Refusal.{Refusal};
+ghost use Rattle.files.specs.Lines.{lines_of, written};
 ghost use Rattle.files.specs.Files.{at_line, counted, file_judged, FileOf, FileRefused};
 
 use crate::cut::{count_lines, lines_of};
@@ -33,15 +34,35 @@ pub(crate) fn judge_line<S: LayoutSet>(set: &S, line: &[u8], n: usize) -> Result
     judge(set, line).map_err(|e| e.in_line(n))
 }
 
+// The same of bytes that were gone over: so many lines were cut off, and this rest is left. So a file
+// that is accepted is cut only once.
+pub(crate) fn walked_lines(bytes: &[u8], count: usize, rest: &[u8]) -> Result<usize, Refusal>
+    requires lines { count ≡ length (lines_of bytes.now) }
+    requires rest { length rest.now + length (written (lines_of bytes.now)) ≡ length bytes.now }
+    ensures { result ≡ counted bytes.now }
+{
+    if rest.is_empty() && count <= MOST_LINES {
+        return Ok(count);
+    }
+    whole_lines(bytes)
+}
+
 // The number of records, or the first fault, by the definition that computes it.
 fn judge_lines<S: LayoutSet>(set: &S, bytes: &[u8]) -> Result<usize, Refusal>
     ensures { result ≡ file_judged (S.meaning set.now) bytes.now }
 {
-    let count = whole_lines(bytes)?;
-    for (k, line) in lines_of(bytes).enumerate() {
-        judge_line(set, line, k + 1)?;
+    // No `for` over `left.by_ref()`: the proof did not close, since what is left is not known then.
+    let mut left = lines_of(bytes);
+    let mut count = 0;
+    while let Some(line) = left.next() {
+        count += 1;
+        if let Err(e) = judge_line(set, line, count) {
+            // 22 and 23 come before the faults of lines.
+            whole_lines(bytes)?;
+            return Err(e);
+        }
     }
-    Ok(count)
+    walked_lines(bytes, count, left.rest())
 }
 
 // The number of records of the file, or its first fault.

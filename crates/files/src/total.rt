@@ -7,7 +7,7 @@ ghost use Rattle.files.specs.Files.{at_line};
 ghost use Rattle.files.specs.Totals.{same, worth, summed, total_of, paid_by};
 
 use crate::cut::lines_of;
-use crate::judge_file::whole_lines;
+use crate::judge_file::{walked_lines, whole_lines};
 use basics::money::Currency;
 use basics::refusal::{Layer, Reason, Refusal};
 use layouts::set::LayoutSet;
@@ -44,12 +44,23 @@ pub(crate) fn sum_lines<S: LayoutSet>(
     ensures sum { result ≡ summed (S.meaning set.now) bytes.now currency.letters }
     ensures few { IfOk result (λ s. s ≤ 1199999999999998800) }
 {
-    whole_lines(bytes)?;
-    let mut sum = 0;
-    for (k, line) in lines_of(bytes).enumerate() {
-        let paid = paid_in(set, line, k + 1, currency)?;
-        sum += paid;
+    // No `for` over `left.by_ref()`: the proof did not close, since what is left is not known then.
+    let mut left = lines_of(bytes);
+    let mut count = 0;
+    let mut sum: u64 = 0;
+    while let Some(line) = left.next() {
+        count += 1;
+        match paid_in(set, line, count, currency) {
+            // Only a sum of more than 1,200 amounts may not fit, and then the file is refused.
+            Ok(paid) => sum = sum.saturating_add(paid),
+            Err(e) => {
+                // 22 and 23 come before the faults of lines.
+                whole_lines(bytes)?;
+                return Err(e);
+            }
+        }
     }
+    walked_lines(bytes, count, left.rest())?;
     Ok(sum)
 }
 

@@ -9,3 +9,4 @@ pub mod Judged
 pub mod Refused
 pub mod TextOnly
 pub mod Differences
+pub mod Texts

@@ -1,9 +1,9 @@
 // What the value of a part has to keep, beside the bytes that it may have.
 ghost use Rattle.std.specs.Prelude.{◌≡◌};
 ghost use Rattle.basics.specs.Refusals.{reason};
+ghost use Rattle.layouts.specs.Kinds.{filled};
 ghost use Rattle.lines.specs.Rules.{number_test, number_refusal, text_test};
 
-use basics::bytes::{ByteClass, first_forbidden};
 use basics::calendar::Day;
 use basics::money::Amount;
 use basics::refusal::Reason;
@@ -46,6 +46,13 @@ impl NumberRule {
     }
 }
 
+// Whether the bytes are not all blank.
+fn is_filled(part: &[u8]) -> bool
+    ensures { result ≡ filled part.now }
+{
+    part.iter().any(|b| *b != b' ')
+}
+
 // The texts that a part may hold. An enum for the same reason.
 #[derive(Clone, Copy)]
 pub enum TextRule {
@@ -59,7 +66,7 @@ impl TextRule {
     {
         match self {
             TextRule::Any => true,
-            TextRule::Filled => first_forbidden(ByteClass::Blank, part).is_some(),
+            TextRule::Filled => is_filled(part),
         }
     }
 }
