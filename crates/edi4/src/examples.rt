@@ -19,5 +19,4 @@ pub fn worked_examples_hold()
     ensures a_line_that_ends_early { judged small (codes "UBT99900000000000017525DK") ≡ Err (refusal 11 2 0 3 26) }
     ensures a_byte_left_over { judged small (codes "UBT99900000000000017525DKKX") ≡ Err (refusal 18 2 0 4 27) }
     ensures days { (is_day 20240229 ≡ true) × (is_day 20000229 ≡ true) × (is_day 20230229 ≡ false) × (is_day 19000229 ≡ false) }
-{
-}
+{}

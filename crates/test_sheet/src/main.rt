@@ -2,8 +2,8 @@
 #![tactic(auto)]
 
 mod blocks;
-mod drafts;
-mod files;
+mod draft_calls;
+mod long_files;
 mod misreadings;
 mod places;
 mod records;
@@ -18,8 +18,8 @@ fn main(rt: HostRuntime) -> io::Result<()> {
     let mut sheet = Sheet::new(rt);
     rules::rules(&mut sheet)?;
     blocks::blocks(&mut sheet)?;
-    files::files(&mut sheet)?;
-    drafts::drafts(&mut sheet)?;
+    long_files::long_files(&mut sheet)?;
+    draft_calls::draft_calls(&mut sheet)?;
     places::places(&mut sheet)?;
     misreadings::misreadings(&mut sheet)?;
     sheet.count()

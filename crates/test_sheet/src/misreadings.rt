@@ -1,5 +1,5 @@
 // Misreadings that are common, each of which is refused or cannot be.
-use crate::drafts::{Desk, EUR};
+use crate::draft_calls::{Desk, EUR};
 use crate::records::{PAYMENT, Piece, line_of};
 use crate::rules::DKK;
 use crate::sheet::Sheet;

@@ -4,7 +4,7 @@ use crate::verdict::Verdict;
 use edi4::{Layer, LoadedSet, Reason, Refusal, judge_file, total};
 use std::io;
 
-pub(crate) fn files(sheet: &mut Sheet) -> io::Result<()> {
+pub(crate) fn long_files(sheet: &mut Sheet) -> io::Result<()> {
     sheet.heading("Files")?;
     let heap = sheet.rt.alloc();
     let mut set = LoadedSet::new(heap)?;

@@ -56,7 +56,7 @@ impl Desk {
     }
 }
 
-pub(crate) fn drafts(sheet: &mut Sheet) -> io::Result<()> {
+pub(crate) fn draft_calls(sheet: &mut Sheet) -> io::Result<()> {
     sheet.heading("A draft")?;
     let mut desk = Desk::new(sheet)?;
     let accepted = Verdict::Accepted(0);
