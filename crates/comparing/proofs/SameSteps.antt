@@ -8,13 +8,15 @@ use Rattle.values.specs.declared.row.ValueRow.{ValueRow}
 use Rattle.comparing.specs.Comparing.{same_text, same_texts}
 
 -- equal texts are there
-pub texts-within : (n : ℕ) (bytes : List ℕ) (rs : List ValueRow) (others : List ℕ) (ss : List ValueRow) → same_texts n bytes rs others ss ≡ true → n ≤ length rs
-texts-within zero bytes rs others ss e = omega arith
+pub texts-within : (n : ℕ) (bytes : List ℕ) (rs : List ValueRow) (others : List ℕ) (ss : List ValueRow) → same_texts n bytes rs others ss ≡ true → (n ≤ length rs) × (n ≤ length ss)
+texts-within zero bytes rs others ss e = (omega arith, omega arith)
 texts-within (suc n) bytes [] others ss e = absurd (clash e)
 texts-within (suc n) bytes (r ∷ rs) others [] e = absurd (clash e)
 texts-within (suc n) bytes (r ∷ rs) others (s ∷ ss) e =
     let w = texts-within n bytes rs others ss (and_parts (same_text bytes (r ∷ rs) others (s ∷ ss)) (same_texts n bytes rs others ss) e).1 in
-    omega arith
+    let x = w.0 in
+    let y = w.1 in
+    (omega arith, omega arith)
 
 -- the texts from place k on, place by place
 pub texts-by-place : (n k : ℕ) (bytes : List ℕ) (rs : List ValueRow) (others : List ℕ) (ss : List ValueRow) → list_all (λ i. same_text bytes (drop i rs) others (drop i ss)) (range_with_len k n) ≡ same_texts n bytes (drop k rs) others (drop k ss)

@@ -25,11 +25,13 @@ fn same_text(values: &Values<'_>, other: &Values<'_>) -> bool
     let (Some(row), Some(other_row)) = (values.rows.first(), other.rows.first()) else {
         return false;
     };
-    let texts = (
-        text_of(values.bytes, *row),
-        text_of(other.bytes, *other_row),
-    );
-    matches!(texts, (Some(text), Some(other_text)) if text == other_text)
+    let Some(text) = text_of(values.bytes, *row) else {
+        return false;
+    };
+    let Some(other_text) = text_of(other.bytes, *other_row) else {
+        return false;
+    };
+    text == other_text
 }
 
 // Whether the first n rows do.

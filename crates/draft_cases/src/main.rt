@@ -2,22 +2,29 @@
 // beside this program was written from the rules.
 #![tactic(auto)]
 
+mod chance;
 mod desk;
 mod foreign_rows;
 mod full;
+mod game;
+mod halt;
 mod kinds;
 mod lengths;
+mod long_run;
 mod own_places;
+mod plain;
 mod refused;
 mod replays;
 mod rest;
 mod room;
+mod rules;
 mod sample;
 mod sealing;
 mod sheet;
 mod short_memory;
 mod shown;
 mod tell;
+mod whole_desk;
 
 use std::io;
 use strips::loaded_set::LoadedSet;
@@ -37,10 +44,13 @@ fn main(rt: HostRuntime) -> io::Result<()> {
     room::short_by_one(rt, &set)?;
     sealing::sealing(rt, &set)?;
     replays::lists_of_calls(rt, &set)?;
+    long_run::one_length(rt, &set)?;
+    long_run::near_1200_lines(rt, &set)?;
     if set.load(b"U99900PVU99901PVL0002").is_err() {
         return println!(rt; "the wide set is not loaded");
     }
     lengths::lengths(rt, &set)?;
+    long_run::several_lengths(rt, &set)?;
     if set.load(b"U99900PVU99902R0002PVQ003DW02").is_err() {
         return println!(rt; "the set of other kinds is not loaded");
     }

@@ -67,11 +67,13 @@ fn main(rt: HostRuntime) -> io::Result<()> {
     println!(rt; "A payment came in: a line of {end} bytes.")?;
     line.truncate(end);
     tell_line(rt, &line)?;
-    let mut damaged = line.clone()?;
-    if let Some(byte) = damaged.get_mut(60) {
+    // In place, since a copy would take the memory of the line once more. D is then put there, whatever
+    // stood there, so what follows tells of a payment in a currency of D and two more letters.
+    if line.len() > 60 {
         println!(rt; "The same payment with byte 61 damaged, d for D:")?;
-        *byte = b'd';
-        tell_line(rt, &damaged)?;
+        line[60] = b'd';
+        tell_line(rt, &line)?;
+        line[60] = b'D';
     }
     record_values::change_the_amount(rt, &line)?;
     own_set::judge_with_an_own_set(rt)

@@ -1,5 +1,5 @@
 // A file is judged whole: at most 1,200 records, each with CR LF behind it.
-ghost use Rattle.std.specs.Prelude.{◌≡◌, ◌+◌, ℕ, List, length, Ok, Err};
+ghost use Rattle.std.specs.Prelude.{◌≡◌, ◌+◌, ◌<◌, ◌≤◌, ℕ, List, length, Ok, Err, MatchResult};
 ghost use Rattle.lines.specs.Judging.{judged};
 ghost use Rattle.basics.specs.declared.refusal.Refusal.{Refusal};
 ghost use Rattle.files.specs.Lines.{lines_of, written};
@@ -34,6 +34,18 @@ pub(crate) fn judge_line<S: LayoutSet>(set: &S, line: &[u8], n: usize) -> Result
     judge(set, line).map_err(|e| e.in_line(n))
 }
 
+// Refuses with 22 or 23 where so many lines of the bytes are more than a file has: then those behind
+// them need not be gone over.
+pub(crate) fn few_so_far(bytes: &[u8], count: usize) -> Result<(), Refusal>
+    requires { count ≤ length (lines_of bytes.now) }
+    ensures { MatchResult result (λ _. count ≤ 1200) (λ e. (1200 < count) × (counted bytes.now ≡ Err e)) }
+{
+    if count <= MOST_LINES {
+        return Ok(());
+    }
+    whole_lines(bytes).and(Ok(()))
+}
+
 // The same of bytes that were gone over: so many lines were cut off, and this rest is left. So a file
 // that is accepted is cut only once.
 pub(crate) fn walked_lines(bytes: &[u8], count: usize, rest: &[u8]) -> Result<usize, Refusal>
@@ -56,6 +68,7 @@ fn judge_lines<S: LayoutSet>(set: &S, bytes: &[u8]) -> Result<usize, Refusal>
     let mut count = 0;
     while let Some(line) = left.next() {
         count += 1;
+        few_so_far(bytes, count)?;
         if let Err(e) = judge_line(set, line, count) {
             // 22 and 23 come before the faults of lines.
             whole_lines(bytes)?;

@@ -7,7 +7,7 @@ ghost use Rattle.files.specs.Files.{at_line};
 ghost use Rattle.files.specs.Totals.{same, worth, summed, total_of, paid_by};
 
 use crate::cut::lines_of;
-use crate::judge_file::{walked_lines, whole_lines};
+use crate::judge_file::{few_so_far, walked_lines, whole_lines};
 use basics::money::Currency;
 use basics::refusal::{Layer, Reason, Refusal};
 use layouts::set::LayoutSet;
@@ -50,6 +50,7 @@ pub(crate) fn sum_lines<S: LayoutSet>(
     let mut sum: u64 = 0;
     while let Some(line) = left.next() {
         count += 1;
+        few_so_far(bytes, count)?;
         match paid_in(set, line, count, currency) {
             // Only a sum of more than 1,200 amounts may not fit, and then the file is refused.
             Ok(paid) => sum = sum.saturating_add(paid),

@@ -104,11 +104,12 @@ pub fn is_lawful(fields: &[Field]) -> bool
     let [first, rest @ ..] = fields else {
         return false;
     };
-    letter_of(*first) == b'U'
+    // How many there are comes first: then a list of any length is gone over only where it is short.
+    fields.len() <= 64
+        && letter_of(*first) == b'U'
         && is_figured(*first)
         && are_later(rest)
         && count_of(b'P', rest) == 1
         && count_of(b'V', rest) == 1
-        && fields.len() <= 64
         && full_width(fields) <= 2400
 }

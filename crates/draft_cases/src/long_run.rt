@@ -1,14 +1,11 @@
 // Long runs of calls by chance, each compared with a draft by the rules alone.
 use crate::chance::Kind;
-use crate::desk::Sizes;
 use crate::game::{Game, Plan};
+use crate::tell::tell_yes;
+use crate::whole_desk::Sizes;
 use basics::refusal::Reason;
 use std::io;
 use strips::loaded_set::LoadedSet;
-
-fn tell_yes(rt: HostRuntime, what: &str, yes: bool) -> io::Result<()> {
-    println!(rt; "{what}: {}", if yes { "yes" } else { "NO" })
-}
 
 // Whether each of those came.
 fn all_came<T: PartialEq>(came: &[T], wanted: &[T]) -> bool {

@@ -1,5 +1,5 @@
-// A draft on a desk: the draft with the three memories that are lent to its calls. They are lent whole;
-// the desk of the program of single cases lends parts of them, and is another type for that.
+// The desk of the long runs: a draft with the three memories that are lent to its calls. They are lent
+// whole; the desk of the single cases lends parts of them, and is another type for that.
 use basics::refusal::{Reason, Refusal};
 use changes::change_row::ChangeRow;
 use drafts::draft::Draft;

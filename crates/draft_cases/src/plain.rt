@@ -1,9 +1,9 @@
 // A draft by the rules alone: a list of lines, and the list before each change that stands.
 ghost use Rattle.std.specs.Prelude.{◌≡◌, ◌<◌, IfOk, vec_len};
 
-use crate::desk::Sizes;
 use crate::halt::Halt;
 use crate::rules::{check_delivery, check_line, cut_lines, paid};
+use crate::whole_desk::Sizes;
 use basics::refusal::Reason;
 use changes::change_row::{ChangeKind, ChangeRow};
 use runs::call::Call;

@@ -1,8 +1,8 @@
 // Calls by chance on a draft and on a draft by the rules alone, and what came of them.
 use crate::chance::{Chance, Kind, Wish};
-use crate::desk::{Desk, Sizes};
 use crate::halt::Halt;
 use crate::plain::Plain;
+use crate::whole_desk::{Desk, Sizes};
 use basics::refusal::{Layer, Reason, Refusal};
 use files::total::total;
 use std::alloc::{AllocError, Global};
