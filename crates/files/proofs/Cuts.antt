@@ -1,6 +1,6 @@
 -- Laws of cutting bytes into lines.
-use Rattle.std.proofs.Common.{◌≡◌, ℕ, zero, suc, ◌+◌, ◌-◌, ◌<◌, ◌≤◌, true, false, cond, eqb, List, [], ◌∷◌, ◌++◌, length, get_or, take, drop, Some, None, Option, sym, refl, ap, ◌∙◌, subst, append_assoc, arith, length-append, length-drop}
-use Rattle.std.proofs.lemmas.List.{drop_more, drop-drop, take_at, drop_at, length-take-le, take_rest}
+use Rattle.std.proofs.Common.{◌≡◌, ℕ, zero, suc, ◌+◌, ◌-◌, ◌≤◌, true, false, cond, eqb, List, [], ◌∷◌, ◌++◌, length, take, drop, Some, None, Option, sym, refl, ap, ◌∙◌, subst, append_assoc, arith, length-append, length-drop}
+use Rattle.std.proofs.lemmas.List.{drop-drop, take_at, drop_at, length-take-le, take_rest}
 use Rattle.std.proofs.lemmas.Bool.{and_parts, and_right, eqb-true, cond-true, cond-false}
 use Rattle.std.specs.Option.{option_map}
 use Rattle.basics.proofs.ByteLaws.{absurd-none, same_some}
@@ -148,7 +148,7 @@ pub uncut-front : (b c : ℕ) (bs : List ℕ) → line_end (b ∷ c ∷ bs) ≡ 
 uncut-front b c bs e =
     elim (ends b c) as (λ t. cond t (Some 0) (option_map (λ n. 1 + n) (line_end (c ∷ bs))) ≡ None → t ≡ false) [ true ↦ λ h. absurd-none (sym h) | false ↦ λ h. refl ] e
 
-mapped-none : (g : ℕ → ℕ) (o : Option ℕ) → option_map g o ≡ None → o ≡ None
+pub mapped-none : (g : ℕ → ℕ) (o : Option ℕ) → option_map g o ≡ None → o ≡ None
 mapped-none g None e = refl
 mapped-none g (Some x) e = absurd-none (sym e)
 
@@ -195,11 +195,6 @@ cutting f = record {
   rest = rest-uncut f;
   only = λ ls r e w n. let b = cut-back ls r w n in (b.lines ∙ ap lines_of (sym e), b.rest ∙ ap rest_of (sym e));
 }
-
--- one turn of a loop that looks for the first CR LF
-module _ (f : List ℕ) (i : ℕ) where
-  two : i + 1 < length f → drop i f ≡ get_or f i 0 ∷ get_or f (i + 1) 0 ∷ drop (i + 1 + 1) f
-  two h = drop_more f i 0 (omega arith) ∙ ap (λ x. get_or f i 0 ∷ x) (drop_more f (i + 1) 0 h)
 
 -- one turn of a loop over the lines, from the place `at`
 module _ (f : List ℕ) (at k : ℕ) (e : Some k ≡ line_end (take (length f - at) (drop at f))) where

@@ -4,3 +4,4 @@ pub mod FileLaws
 pub mod Sums
 pub mod FirstLines
 pub mod Finding
+pub mod Places

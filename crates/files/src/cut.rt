@@ -1,5 +1,5 @@
 // Bytes are cut into lines at each CR directly followed by LF.
-ghost use Rattle.std.specs.Prelude.{◌≡◌, ◌&&◌, ◌==◌, nat_lt, length, slice_index};
+ghost use Rattle.std.specs.Prelude.{◌≡◌, ◌+◌, ◌≤◌, ◌&&◌, ◌==◌, nat_lt, drop, length, option_map, slice_index, take};
 ghost use Rattle.files.specs.Lines.{line_end, lines_of, written, Cutting};
 
 use memchr::memchr;
@@ -9,6 +9,13 @@ const CR: u8 = 13;
 
 const LF: u8 = 10;
 
+// How many places are looked at one by one before a CR is searched for. A call of `memchr` takes as
+// long as some sixteen of them.
+const NEAR: usize = 16;
+
+// How many places behind a lone CR are looked at one by one before the next search.
+const WALK: usize = 256;
+
 // Whether LF stands at this index.
 fn has_lf(bytes: &[u8], at: usize) -> bool
     ensures { result ≡ (nat_lt at (length bytes.now) && slice_index bytes.now at == 10) }
@@ -16,20 +23,74 @@ fn has_lf(bytes: &[u8], at: usize) -> bool
     at < bytes.len() && bytes[at] == LF
 }
 
-// The index of the first CR directly followed by LF. A loop over the CRs, each of which is found many
-// bytes at once: `position` over the pairs of neighbours took fifteen times as long.
-pub fn line_end(bytes: &[u8]) -> Option<usize>
+// The index of the first CR directly followed by LF, byte by byte. Where CRs stand close to each
+// other, this is faster than a search for each of them.
+#[inline(always)]
+fn walked_end(bytes: &[u8]) -> Option<usize>
     ensures { result ≡ line_end bytes.now }
 {
-    let mut from = 0;
+    let mut i = 0;
+    while i + 1 < bytes.len() {
+        if bytes[i] == CR && bytes[i + 1] == LF {
+            return Some(i);
+        }
+        i += 1;
+    }
+    None
+}
+
+// The first CR LF whose CR is one of the 256 bytes from this place on. One byte more is looked at,
+// for the LF behind the last of them.
+#[inline(never)]
+fn end_nearby(bytes: &[u8], place: usize) -> Option<usize>
+    requires { place ≤ length bytes.now }
+    ensures { result ≡ option_map (λ k. place + k) (line_end (take 257 (drop place bytes.now))) }
+{
+    let end = bytes.len().min(place + WALK + 1);
+    let k = walked_end(&bytes[place..end])?;
+    Some(place + k)
+}
+
+// The first CR LF from this place on. A loop over the CRs. A lone one that came soon has others near
+// it, as it seems, so the bytes behind it are walked over before the next search.
+#[inline(never)]
+fn end_from(bytes: &[u8], place: usize) -> Option<usize>
+    requires { place ≤ length bytes.now }
+    ensures { result ≡ option_map (λ k. place + k) (line_end (drop place bytes.now)) }
+{
+    let mut from = place;
     while let Some(k) = memchr(CR, &bytes[from..]) {
         let at = from + k;
         if has_lf(bytes, at + 1) {
             return Some(at);
         }
         from = at + 1;
+        if k < NEAR {
+            if let Some(end) = end_nearby(bytes, from) {
+                return Some(end);
+            }
+            from = bytes.len().min(from + WALK);
+        }
     }
     None
+}
+
+// The index of the first CR directly followed by LF. The first places are looked at one by one. Behind
+// them a CR is searched for, in records that of the line's end. `position` over the pairs of neighbours
+// took fifteen times as long.
+pub fn line_end(bytes: &[u8]) -> Option<usize>
+    ensures { result ≡ line_end bytes.now }
+{
+    let near = bytes.len().min(NEAR + 1);
+    if let Some(k) = walked_end(&bytes[..near]) {
+        return Some(k);
+    }
+    let from = bytes.len().min(NEAR);
+    let at = from + memchr(CR, &bytes[from..])?;
+    if has_lf(bytes, at + 1) {
+        return Some(at);
+    }
+    end_from(bytes, at + 1)
 }
 
 // An iterator over lines, each without its CR LF. Contracts see the bytes that are not cut yet.
